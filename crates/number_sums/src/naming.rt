@@ -1,14 +1,14 @@
 // The sums with their names.
-ghost use Rattle.std.specs.Prelude.{◌≡◌, ◌<◌, ◌^◌, [], List, fold, map, IfOk, MatchResult};
+ghost use Rattle.std.specs.Prelude.{◌≡◌, ◌<◌, ◌^◌, List, map, IfOk, MatchResult};
 ghost use Rattle.std.specs.List.{AllByRecursion};
 ghost use Rattle.cost_reports.specs.Rows.{sum_of_row};
-ghost use Rattle.cost_rows.specs.KeySums.{sums_by, with_row};
+ghost use Rattle.cost_rows.specs.KeySums.{sums_by};
 ghost use Rattle.cost_rows.specs.Plain.{plain_cell};
 ghost use Rattle.plain_tables.specs.Tables.{NameRow};
 ghost use Rattle.plain_tables.specs.declared.errors.StoreError.TheVariants.{Store};
 ghost use Rattle.prof_books.specs.Book.{IsHeld};
 ghost use Rattle.run_stores.specs.Names.{named_cell};
-ghost use Rattle.number_sums.specs.Named.{named_sum, AreOf};
+ghost use Rattle.number_sums.specs.Named.{merged_by, named_sum, AreOf};
 ghost use Rattle.number_sums.specs.Sums.{number_rows, numbers_told, numbers_total, told};
 
 use crate::part_sums::PartSums;
@@ -62,7 +62,7 @@ fn merge_named<N: NameTable>(
 ) -> Result<Merged, StoreError>
     requires small { numbers_total sums.now < 2 ^ 112 }
     ensures key { IfOk result (λ merged. merged.key ≡ key) }
-    ensures sums { IfOk result (λ merged. merged ≡ fold with_row (record { key = key; sums = [] }) (map (named_cell (N.name_rows names.now)) (number_rows sums.now))) }
+    ensures sums { IfOk result (λ merged. merged ≡ merged_by (N.name_rows names.now) key sums.now) }
     ensures held { IfOk result (λ _. AllByRecursion (IsHeld (N.name_rows names.now)) (numbers_told key sums.now)) }
 {
     let mut merged = Merged::new(alloc, key);

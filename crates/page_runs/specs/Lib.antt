@@ -1,6 +1,7 @@
 pub mod Among
 pub mod Finished
 pub mod Kept
+pub mod Meta
 pub mod Names
 pub mod Opening
 pub mod Shown

@@ -93,6 +93,10 @@ module _ {D : Type 0} {g : Ghosts D} where
     pub holds : Holds t db
     pub ordered : AreInOrder t
 
+  -- it represents the rows that an image of its files holds, those of runs in the order of the runs
+  abbrev pub RepresentsImage : Image → PageRuns D g → Type 0
+  RepresentsImage image store = (t : Tables) → HoldsIn t (page_size store.file, image) → AreInOrder t → Represents t store
+
   -- what a crash may leave holds the rows that it represents
   pub survives : (t : Tables) (store : PageRuns D g) (left : Left) → Represents t store → may_leave store left → HoldsIn t left
   survives t store left was (sized, (image, may, same)) =

@@ -1,4 +1,5 @@
 // Whether two texts make tables with the same rows.
+ghost use Rattle.std.specs.Prelude.{◌≡◌, Err, IfErr};
 
 use sqlite_items::Items;
 use sqlite_resolve::{CompileError, define_table};
@@ -6,13 +7,21 @@ use sqlite_schema::names::same_name;
 use sqlite_schema::schema::{Column, Kind, Table};
 use std::alloc::{AllocError, Global};
 
-/// The table that a text makes. `None` where it makes none.
-fn table_of(alloc: Global, text: &[u8]) -> Result<Option<Table>, AllocError> {
-    match define_table(alloc, text) {
+/// The table that was made, if one was. Memory was refused where the making was refused it, and for nothing that a text
+/// says.
+fn table_in(made: Result<Table, CompileError>) -> Result<Option<Table>, AllocError>
+    ensures { IfErr result (λ _. made ≡ Err CompileError.OutOfMemory) }
+{
+    match made {
         Ok(table) => Ok(Some(table)),
         Err(CompileError::OutOfMemory) => Err(AllocError),
         Err(_) => Ok(None),
     }
+}
+
+/// The table that a text makes. `None` where it makes none.
+fn table_of(alloc: Global, text: &[u8]) -> Result<Option<Table>, AllocError> {
+    table_in(define_table(alloc, text))
 }
 
 /// Whether two columns have one name and one order, and values are stored in them alike: in a REAL column alone whole
@@ -35,16 +44,19 @@ fn are_same_keys(a: &Items<Items<usize>>, b: &Items<Items<usize>>) -> bool {
     a.len() == b.len() && a.iter().zip(b).all(|(a, b)| a.as_slice() == b.as_slice())
 }
 
+/// Whether two tables have rows alike, and so the indexes that they have by their keys.
+fn are_alike(one: &Table, other: &Table) -> bool {
+    have_same_columns(one, other)
+        && one.key == other.key
+        && are_same_keys(&one.uniques, &other.uniques)
+        && one.orders.as_slice() == other.orders.as_slice()
+}
+
 /// Whether two texts make tables whose rows, and those of the indexes that they have by their keys, are the same. Types,
 /// rules and references may differ: what a row says is tested where it is read. No clause says so.
 pub(crate) fn have_same_rows(alloc: Global, one: &[u8], other: &[u8]) -> Result<bool, AllocError> {
-    let (Some(one), Some(other)) = (table_of(alloc, one)?, table_of(alloc, other)?) else {
-        return Ok(false);
-    };
-    Ok(
-        have_same_columns(&one, &other)
-            && one.key == other.key
-            && are_same_keys(&one.uniques, &other.uniques)
-            && one.orders.as_slice() == other.orders.as_slice(),
-    )
+    match (table_of(alloc, one)?, table_of(alloc, other)?) {
+        (Some(one), Some(other)) => Ok(are_alike(&one, &other)),
+        _ => Ok(false),
+    }
 }

@@ -1,10 +1,11 @@
 // The small tables of a store, read into lists.
-ghost use Rattle.std.specs.Prelude.{◌≡◌, ◌∷◌, [], ℕ, IfOk, OnOk};
+ghost use Rattle.std.specs.Prelude.{◌≡◌, ◌∷◌, [], ℕ, IfErr, IfOk, OnOk};
 ghost use Rattle.sqlite_trees.specs.Tree.{Trees};
 ghost use Rattle.page_files.specs.Files.{IsFaithful, IsUsable, OnlyReads};
 ghost use Rattle.plain_tables.specs.Tables.{Tables};
 ghost use Rattle.run_lists.specs.Listed.{AreListed};
 ghost use Rattle.store_schema.specs.Tables.{Holds, meta_columns};
+ghost use Rattle.page_runs.specs.Meta.{IsMeta};
 ghost use Rattle.page_runs.specs.Shown.{StandUnder, ShowsRows};
 
 use crate::listing::all_rows;
@@ -16,9 +17,10 @@ use run_lists::{RunLines, RunLists};
 use sqlite_disk::Disk;
 use std::alloc::Global;
 
-/// The number that the next run gets, in the only line of `meta`.
+/// The number that the next run gets, in the only line of `meta`. `Store` unless it has one line, of schema 2.
 fn next_in(lines: &[Meta]) -> Result<u32, StoreError>
-    ensures { IfOk result (λ next. lines.now ≡ record { schema = 2; next = next } ∷ []) }
+    ensures next { IfOk result (IsMeta lines.now) }
+    ensures refused { IfErr result (λ e. (e ≡ StoreError.Store) × ((next : ℕ) → ¬ (IsMeta lines.now next))) }
 {
     match lines {
         [line] if line.schema == 2 => Ok(line.next),

@@ -7,7 +7,7 @@ ghost use Rattle.run_lists.specs.Listed.{AreListed};
 ghost use Rattle.page_places.specs.Roots.{AreRoots, IsStoreOf};
 
 use crate::lists::read_lists;
-use crate::texts::{Found, find_tables};
+use crate::texts::find_tables;
 use page_files::PageFile;
 use page_places::{StoreRoots, find_roots};
 use plain_tables::StoreError;
@@ -25,13 +25,10 @@ fn read_store<D: Disk>(
     ensures usable { OnOk result (IsUsable file.new) }
     ensures reads { OnlyReads file.old file.new }
 {
-    let tables = find_tables(file, alloc)?;
-    if tables == Found::Others {
-        return Err(StoreError::Store);
-    }
+    let is_alone = find_tables(file, alloc)?.is_alone()?;
     let roots = find_roots(file, alloc)?;
     let lists = read_lists(file, alloc, &roots)?;
-    Ok((roots, lists, tables == Found::Ours))
+    Ok((roots, lists, is_alone))
 }
 
 /// Opens a store: where its tables stand, the rows of the small ones, and whether nothing of others stands on them. At a

@@ -9,10 +9,9 @@ ghost use Rattle.profile_records.specs.declared.kinds.Kind.{Kind as RunKind};
 ghost use Rattle.run_stores.specs.Lookups.{IsKindOf};
 ghost use Rattle.run_lists.specs.Listed.{AreListed};
 ghost use Rattle.run_lists.specs.RowSums.{calls_of_run, cells_of_run, stacks_of_run};
-ghost use Rattle.run_order.specs.Order.{AreInOrder};
 ghost use Rattle.page_runs.specs.Finished.{Commits, Finishes};
 ghost use Rattle.page_runs.specs.Sizes.{IsSizeOf};
-ghost use Rattle.page_runs.specs.States.{HoldsIn, IsFaithful, Represents, state_of};
+ghost use Rattle.page_runs.specs.States.{IsFaithful, RepresentsImage, state_of};
 ghost use Rattle.run_stores.specs.Calls.{Asks};
 ghost use Rattle.std.specs.Result.{is_ok};
 
@@ -64,7 +63,8 @@ impl<D: Disk + Drop> PageRuns<D> {
     /// # Errors
     /// `Memory`; `Store` where it is none that is read so: where a table has other columns or keys than ours, where its
     /// version is another, or where what is read of it is damaged or out of form, or cannot be read. Its database tells
-    /// then what it is. Which of them comes no clause says, as none says when `find_tables` and `read_lists` fail.
+    /// then what it is. No clause can say that memory was refused; but the functions that find other tables, a text that
+    /// makes no table, or another version say that these are no cause of `Memory`.
     pub fn open(
         alloc: Global,
         files: Files<D>,
@@ -75,8 +75,7 @@ impl<D: Disk + Drop> PageRuns<D> {
         requires db { IsTrue (D.Disk.is_usable files.db) }
         ensures honest { IfOk result (λ store. IsFaithful store → AreClean D.Disk files.log files.db) }
         ensures size { IfOk result (λ store. IsFaithful store → IsSizeOf (seen_image D.Disk files.log files.db) (page_size store.file)) }
-        ensures represents { IfOk result (λ store. IsFaithful store → (t : Tables) → HoldsIn t (page_size store.file, seen_image D.Disk files.log files.db) → AreInOrder t
-            → Represents t store) }
+        ensures represents { IfOk result (λ store. IsFaithful store → RepresentsImage (seen_image D.Disk files.log files.db) store) }
         ensures crash { IfOk result (λ store. AddsNothing (page_size store.file) (outcomes D.Disk files.log files.db) (files_may_leave store.file)) }
         ensures keeps { IfOk result (λ store. store.kept_cells.limit ≡ cells_to_keep) }
     {

@@ -1,12 +1,12 @@
 // Whether a file has our tables.
 ghost use Rattle.std.specs.Prelude.{◌≡◌, ◌<◌, map, IfSome};
 ghost use Rattle.page_files.specs.Files.{OnlyReads};
-ghost use Rattle.page_runs.specs.Texts.{table_texts};
+ghost use Rattle.page_runs.specs.Texts.{alone_in, failure_of_entries, table_texts};
 
 use crate::alike::have_same_rows;
 use page_files::PageFile;
-use page_places::{TABLE_NAMES, error_of_walk};
-use page_rows::{RowSink, read_row};
+use page_places::{TABLE_NAMES, error_of};
+use page_rows::{RowSink, WalkError, read_row};
 use plain_tables::StoreError;
 use sqlite_disk::Disk;
 use sqlite_trees::sound::is_word;
@@ -49,6 +49,19 @@ pub(crate) enum Found {
     OursWithMore,
     /// Others, or not all of ours.
     Others,
+}
+
+impl Found {
+    /// Whether what stands on our tables is ours too. `Store` where the tables are not ours.
+    pub(crate) fn is_alone(self) -> Result<bool, StoreError>
+        ensures { result ≡ alone_in self }
+    {
+        match self {
+            Found::Ours => Ok(true),
+            Found::OursWithMore => Ok(false),
+            Found::Others => Err(StoreError::Store),
+        }
+    }
 }
 
 /// The place in schema 2 of the table that a column of an entry of `sqlite_schema` names.
@@ -111,7 +124,7 @@ impl Listed {
 impl RowSink for Listed {
     ghost use Rattle.std.specs.Prelude.{⊤};
 
-    type Refusal = StoreError;
+    type Refusal = AllocError;
 
     ghost Start = { Unit {0} };
 
@@ -121,7 +134,7 @@ impl RowSink for Listed {
 
     ghost Refuses = { λ _ _. ⊤ };
 
-    fn take(&mut self, rowid: i64, payload: &[u8]) -> Result<bool, StoreError> {
+    fn take(&mut self, rowid: i64, payload: &[u8]) -> Result<bool, AllocError> {
         read_row(rowid, payload, &mut self.entry)?;
         if is_word(b"table", self.entry.get(1)) {
             self.take_table()?;
@@ -132,9 +145,19 @@ impl RowSink for Listed {
     }
 }
 
+/// What ended a walk over the entries of `sqlite_schema`: one is refused where memory is, and for nothing that it says.
+fn error_of_entries(error: WalkError<AllocError>) -> StoreError
+    ensures { result ≡ failure_of_entries error }
+{
+    match error {
+        WalkError::Pages(error) => error_of(error),
+        WalkError::Refused(_) => StoreError::Memory,
+    }
+}
+
 /// Whose tables a file has. Ours are those of schema 2, with our columns and keys, so that their rows and those of their
 /// indexes are as we read and write them. Other tables and views may stand beside them. No clause says so: only that
-/// the file is read.
+/// the file is read. `Memory`; `Store` where a page cannot be read.
 pub(crate) fn find_tables<D: Disk>(
     file: &mut PageFile<D>,
     alloc: Global,
@@ -152,6 +175,6 @@ pub(crate) fn find_tables<D: Disk>(
         Ok(()) if listed.ours != 11 || listed.has_other => Ok(Found::Others),
         Ok(()) if listed.has_more => Ok(Found::OursWithMore),
         Ok(()) => Ok(Found::Ours),
-        Err(error) => Err(error_of_walk(error)),
+        Err(error) => Err(error_of_entries(error)),
     }
 }

@@ -14,4 +14,4 @@ only_line lines next n is columns =
 
 pub returns-clause-next : goal.returns-clause-next
 returns-clause-next g c faithful = λ n shows.
-    IfOk-weaker c.next_in.result _ _ (λ next is. only_line _ next n (sym c.as_slice.ensures.value ∙ is) (c.in_ok-lines.ensures.read faithful _ shows)) c.next_in.ensures
+    IfOk-weaker c.next_in.result _ _ (λ next is. only_line _ next n (sym c.as_slice.ensures.value ∙ is) (c.in_ok-lines.ensures.read faithful _ shows)) c.next_in.ensures.next
