@@ -51,7 +51,7 @@ returns-clause-done g c clean = λ wanted known db t rests holds new.
     match_result c.put_contents.result
     (λ (made : HasMade (head_tables ++ row_tables) wanted known db db _ c.put_contents.new.file). (made.shows.next, made.shows.writes, subst (λ u. Holds u made.shows.next) same made.shows.holds))
     (λ e. store_fails_later file mid c.put_contents.new.file e c.find_roots.ensures.reads.keeps
-    (λ (can : CanImport n c.args.kind c.args.digest.now c.args.label.now summed t db). subst (λ f. CanBeFiled f t db) (sym filed_is) can.filed))
+    (λ (can : CanImport n c.args.kind c.args.digest.now c.args.label.now summed t db). subst (λ f. CanBeFiled f t db) (sym filed_is) can.lines))
     (c.put_contents.ensures.done clean wanted known db t shows are (record {
       is_new = new;
       lines = record {
