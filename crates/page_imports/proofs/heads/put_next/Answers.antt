@@ -26,7 +26,7 @@ returns-in-Ok-clause-done g c clean = λ wanted known was t shows are above.
     let is : made.next 0 ≡ meta_columns n ∷ [] = made.rows_are ∙ ap (λ l. put_row (number 1 ∷ l) (now 0)) c.in_ok-columns.ensures ∙ ap (put_row (meta_columns n)) rows ∙ next_put t.next n in
     record {
       shows = record { next = made.next; writes = made.writes; holds = next_replaced t now made.next shows.holds made.only (subst (IsShaped shape.Table) (sym made.rows_are) made.shaped) n is above };
-      kept = changed_keeps meta_at made.only;
+      kept = changed_keeps meta_at now made.next made.only;
     }
 
 pub returns-clause-done : goal.returns-clause-done

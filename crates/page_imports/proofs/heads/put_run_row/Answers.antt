@@ -36,7 +36,7 @@ returns-in-Ok-clause-done g c clean = λ wanted known was t shows are can.
     let behind : made.next 1 ≡ now 1 ++ run_columns run ∷ [] = made.rows_are ∙ ap (λ z. now 1 ++ (Int z ∷ c.in_ok-columns.columns) ∷ []) id ∙ ap (λ l. now 1 ++ (number run.number ∷ l) ∷ []) c.in_ok-columns.ensures in
     record {
       shows = record { next = made.next; writes = made.writes; holds = run_behind t now made.next shows.holds made.only (subst (IsShaped shape.Table) (sym made.rows_are) made.shaped) run behind (none_equal t.runs run.digest can.none) can.low };
-      kept = changed_keeps run_at made.only;
+      kept = changed_keeps run_at now made.next made.only;
     }
 
 pub returns-clause-done : goal.returns-clause-done
