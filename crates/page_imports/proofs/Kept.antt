@@ -1,5 +1,5 @@
 -- Tables that a step does not change.
-use Rattle.std.proofs.Common.{◌≡◌, ◌≢◌, ◌==◌, ◌||◌, ◌&&◌, ◌++◌, ℕ, Bool, true, false, not, List, [], ◌∷◌, refl, sym, ap, subst, ◌∙◌, eq-eqb}
+use Rattle.std.proofs.Common.{◌≡◌, ◌≢◌, ◌==◌, ◌||◌, ◌&&◌, ◌++◌, ℕ, Bool, true, false, not, List, [], ◌∷◌, inl, inr, refl, sym, ap, ◌∙◌, eq-eqb}
 use Rattle.std.specs.List.{list_all, list_any}
 use Rattle.std.proofs.lemmas.Bool.{and_parts}
 use Rattle.sqlite_rules.specs.Lists.{Has}
@@ -22,8 +22,8 @@ any_parts p (x ∷ xs) ys none =
     (ap (λ b. b || list_any p xs) here.0 ∙ more.0, more.1)
 
 -- of two steps
-pub kept_then : (first second : List Table) {a b c : Trees} → KeepsOthers first a b → KeepsOthers second b c → KeepsOthers (first ++ second) a c
-kept_then first second one two table there none =
+pub kept_then : (first second : List Table) (a b c : Trees) → KeepsOthers first a b → KeepsOthers second b c → KeepsOthers (first ++ second) a c
+kept_then first second a b c one two table there none =
     let parts = any_parts (λ (other : Table). other.tree == table.tree) first second none in
     two table there parts.1 ∙ one table there parts.0
 
@@ -37,8 +37,8 @@ abbrev pub is_apart : Table → List ℕ → Table → Bool
 is_apart changed trees table = (changed.tree == table.tree) || not (list_any (λ tree. tree == table.tree) trees)
 
 -- of a table that is filled
-pub filled_keeps : (changed : Table) {now next : Trees} → list_all (is_apart changed (trees_over schema_two changed)) schema_two.tables ≡ true → SparesBut (trees_over schema_two changed) now next → KeepsOthers (changed ∷ []) now next
-filled_keeps changed apart spared table there none =
+pub filled_keeps : (changed : Table) (now next : Trees) → list_all (is_apart changed (trees_over schema_two changed)) schema_two.tables ≡ true → SparesBut (trees_over schema_two changed) now next → KeepsOthers (changed ∷ []) now next
+filled_keeps changed now next apart spared table there none =
     let trees = trees_over schema_two changed in
     spared table.tree (go (changed.tree == table.tree) (list_any (λ tree. tree == table.tree) trees) none (all_of (is_apart changed trees) schema_two.tables table apart there))
   where
@@ -48,6 +48,6 @@ filled_keeps changed apart spared table there none =
     go false false none is = refl
 
 -- of one of which a row changed
-pub changed_keeps : (changed : Table) {now next : Trees} → OnlyChanges schema_two now next changed → KeepsOthers (changed ∷ []) now next
-changed_keeps changed only table there none =
+pub changed_keeps : (changed : Table) (now next : Trees) → OnlyChanges schema_two now next changed → KeepsOthers (changed ∷ []) now next
+changed_keeps changed now next only table there none =
     only.others table there (λ same. let no : true ≡ false = ap (λ b. b || false) (sym (eq-eqb changed.tree table.tree (sym same))) ∙ none in absurd cc)

@@ -20,9 +20,9 @@ err_for (Ok x) so f = tt
 err_for (Err e) so f = so e f
 
 -- of what succeeds, or fails for a cause
-pub when_ok : {T E : Type 0} (r : Result T E) {P : Type 0} (F : E → Type 0) → MatchResult r (λ _. P) F → OnOk r P
-when_ok (Ok x) F p = p
-when_ok (Err e) F p = tt
+pub when_ok : {T E : Type 0} (r : Result T E) (P : Type 0) (F : E → Type 0) → MatchResult r (λ _. P) F → OnOk r P
+when_ok (Ok x) P F p = p
+when_ok (Err e) P F p = tt
 
 pub at_err : {T E : Type 0} (r : Result T E) (P : Type 0) (F : E → Type 0) (e : E) → r ≡ Err e → MatchResult r (λ _. P) F → F e
 at_err (Ok x) P F e is m = absurd cc

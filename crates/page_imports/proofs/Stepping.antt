@@ -10,5 +10,5 @@ use Rattle.plain_tables.specs.Tables.{Tables}
 use Rattle.page_imports.specs.Steps.{ShowsTables}
 
 -- a call that reads stands in the middle of it
-pub shows_after : {D : Type 0} {g : Ghosts D} (old new : PageFile D g) {wanted : List Wanted} {known : List ℕ} {was : Trees} {t : Tables} → OnlyReads old new → IsFaithful new → IsUsable new → ShowsTables wanted known was t old → ShowsTables wanted known was t new
+abbrev pub shows_after : {D : Type 0} {g : Ghosts D} (old new : PageFile D g) {wanted : List Wanted} {known : List ℕ} {was : Trees} {t : Tables} → OnlyReads old new → IsFaithful new → IsUsable new → ShowsTables wanted known was t old → ShowsTables wanted known was t new
 shows_after old new reads faithful usable shows = record { next = shows.next; writes = writes_after old new reads faithful usable shows.writes; holds = shows.holds }

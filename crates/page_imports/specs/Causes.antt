@@ -45,9 +45,9 @@ abbrev pub CanBePut : Table → List Row → Trees → Type 0
 CanBePut table lines db = CanBeFilledIn lines (db table.tree) (indexes_of schema_two table)
 
 -- a row and its entries can be written as records
-pub record CanBeWritten (table : Table) (row : Row) : Type 0 where
-  pub row : IsStorableRow 0 row
-  pub entries : AreStorable row (indexes_of schema_two table)
+pub record CanBeWritten (table : Table) (columns : Row) : Type 0 where
+  pub row : IsStorableRow 0 columns
+  pub entries : AreStorable columns (indexes_of schema_two table)
 
 -- no name has a number of more than 32 bits
 abbrev pub AreNarrow : Tables → Type 0
@@ -64,13 +64,13 @@ pub record CanBeNumbered (names : List (List ℕ)) (t : Tables) (db : Trees) : T
   pub put : (news : List (List ℕ)) → all_named names t ≡ with_names news t → CanBePut name_at (map name_line news) db
 
 -- the row of a run and the lines of its head can be put in, and there is a number above its own
-pub record CanPutHead (run : RunRow) (events : List EventRow) (derived : List DerivedRow) (coefs : List CoefRow) (db : Trees) : Type 0 where
+pub record CanPutHead (run : RunRow) (es : List EventRow) (ds : List DerivedRow) (ks : List CoefRow) (db : Trees) : Type 0 where
   pub number : suc run.number < 2 ^ 32
   pub next : CanBeWritten meta_at (meta_columns (suc run.number))
   pub row : CanBeWritten run_at (run_columns run)
-  pub events : CanBePut run_event_at (map event_columns events) db
-  pub derived : CanBePut derived_at (map derived_columns derived) db
-  pub coefs : CanBePut coef_at (map coef_columns coefs) db
+  pub events : CanBePut run_event_at (map event_columns es) db
+  pub derived : CanBePut derived_at (map derived_columns ds) db
+  pub coefs : CanBePut coef_at (map coef_columns ks) db
 
 -- the same of lines as the code has them
 abbrev pub CanPutHeadOf : RunLine → HeadRows → Trees → Type 0
@@ -118,7 +118,7 @@ pub record CanImport (number : ℕ) (kind : Kind) (digest label : List ℕ) (fil
   pub is_new : IsNew number digest t
   pub head : HeadFits file.head.now (content_of file.rows.now)
   pub counted : count_total (content_of file.rows.now).calls < 2 ^ 63
-  pub filed : CanBeFiled (filed number kind digest label file.head.now (content_of file.rows.now)) t db
+  pub lines : CanBeFiled (filed number kind digest label file.head.now (content_of file.rows.now)) t db
 
 module _ {D : Type 0} {g : Ghosts D} where
   -- where the file rests on a store whose small tables are listed, this was missing, or the pages were not read or written for a cause

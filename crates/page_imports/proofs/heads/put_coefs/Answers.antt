@@ -24,5 +24,5 @@ returns-clause-done g c run clean = λ wanted known was t shows are can.
         writes = made.writes;
         holds = coefs_filled t now made.next shows.holds run can.held (map coef_row lines) can.of_run (subst (IsTableFilled schema_two now made.next coef_at) columns made.filled);
       };
-      kept = filled_keeps coef_at refl made.filled.spared;
+      kept = filled_keeps coef_at now made.next refl made.filled.spared;
     }) (λ e. fails_for file c.fill.new.file e (subst (λ l. CanBePut coef_at l now) (sym columns))) (c.fill.ensures.done clean schema_two wanted known was now coef_at at)

@@ -24,5 +24,5 @@ returns-clause-done g c run clean = λ wanted known was t shows are can.
         writes = made.writes;
         holds = events_filled t now made.next shows.holds run can.held (map event_row lines) can.of_run (subst (IsTableFilled schema_two now made.next run_event_at) columns made.filled);
       };
-      kept = filled_keeps run_event_at refl made.filled.spared;
+      kept = filled_keeps run_event_at now made.next refl made.filled.spared;
     }) (λ e. fails_for file c.fill.new.file e (subst (λ l. CanBePut run_event_at l now) (sym columns))) (c.fill.ensures.done clean schema_two wanted known was now run_event_at at)

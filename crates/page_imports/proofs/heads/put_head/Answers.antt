@@ -10,10 +10,10 @@ use Rattle.plain_tables.specs.Tables.{RunRow, EventRow, DerivedRow, CoefRow}
 use Rattle.row_writes.proofs.Outcomes.{match_result}
 use Rattle.store_schema.specs.Lines.{coef_row, derived_row, event_row, run_row}
 use Rattle.store_schema.specs.Schema.{schema_two, meta_at, run_at, run_event_at, derived_at, coef_at}
-use Rattle.store_schema.specs.Tables.{meta_columns, event_columns, derived_columns, coef_columns}
+use Rattle.store_schema.specs.Tables.{Holds, meta_columns, event_columns, derived_columns, coef_columns}
 use Rattle.store_schema.proofs.Sound.{sound_of}
 use Rattle.page_imports.specs.Causes.{CanBePut, CanBeWritten, CanPutHeadOf}
-use Rattle.page_imports.specs.Steps.{HasMade, ShowsTables}
+use Rattle.page_imports.specs.Steps.{HasMade}
 use Rattle.page_imports.proofs.Carried.{put_still}
 use Rattle.page_imports.proofs.Failing.{fails_for}
 use Rattle.page_imports.proofs.Kept.{kept_then}
@@ -83,7 +83,7 @@ returns-in_err-put_events-clause-done g c clean = λ wanted known was t shows ar
     let same = two.kept run_event_at (has_got schema_two.tables 2 run_event_at refl) refl ∙ one.kept run_event_at (has_got schema_two.tables 2 run_event_at refl) refl in
     let p = err_from_is_err_and c.from_residual-in_err-put_events.result c.from_residual-in_err-put_events.ensures.1 in
     rw (p.1, p.2) (store_fails_later file c.put_run_row.new.file c.put_events.new.file _ ((Keeps-trans _ _ _ c.put_next.ensures.keeps c.put_run_row.ensures.keeps))
-    (λ (fits : CanPutHeadOf run head shows.next). put_still run_event_at _ same (subst (λ l. CanBePut run_event_at (map event_columns (map event_row l)) shows.next) (sym c.deref.ensures.value) fits.events)) three)
+    (λ (fits : CanPutHeadOf run head shows.next). put_still run_event_at _ shows.next two.shows.next same (subst (λ l. CanBePut run_event_at (map event_columns (map event_row l)) shows.next) (sym c.deref.ensures.value) fits.events)) three)
 
 pub returns-in_err-put_derived-clause-done : goal.returns-in_err-put_derived-clause-done
 returns-in_err-put_derived-clause-done g c clean = λ wanted known was t shows are can.
@@ -115,7 +115,7 @@ returns-in_err-put_derived-clause-done g c clean = λ wanted known was t shows a
     let same = three.kept derived_at (has_got schema_two.tables 3 derived_at refl) refl ∙ two.kept derived_at (has_got schema_two.tables 3 derived_at refl) refl ∙ one.kept derived_at (has_got schema_two.tables 3 derived_at refl) refl in
     let p = err_from_is_err_and c.from_residual-in_err-put_derived.result c.from_residual-in_err-put_derived.ensures.1 in
     rw (p.1, p.2) (store_fails_later file c.put_events.new.file c.put_derived.new.file _ ((Keeps-trans _ _ _ (Keeps-trans _ _ _ c.put_next.ensures.keeps c.put_run_row.ensures.keeps) c.put_events.ensures.keeps))
-    (λ (fits : CanPutHeadOf run head shows.next). put_still derived_at _ same (subst (λ l. CanBePut derived_at (map derived_columns (map derived_row l)) shows.next) (sym c.deref-2.ensures.value) fits.derived)) four)
+    (λ (fits : CanPutHeadOf run head shows.next). put_still derived_at _ shows.next three.shows.next same (subst (λ l. CanBePut derived_at (map derived_columns (map derived_row l)) shows.next) (sym c.deref-2.ensures.value) fits.derived)) four)
 
 pub returns-clause-done : goal.returns-clause-done
 returns-clause-done g c clean = λ wanted known was t shows are can.
@@ -159,11 +159,12 @@ returns-clause-done g c clean = λ wanted known was t shows are can.
     ∙ ap (λ (l : List _). coefs (with_derived (map derived_row l) (with_events (map event_row head.events.items) (with_run (run_row run) (with_next (suc n) t))))) c.deref-2.ensures.value
     ∙ ap (λ (l : List _). with_coefs (map coef_row l) (with_derived (map derived_row head.derived.items) (with_events (map event_row head.events.items) (with_run (run_row run) (with_next (suc n) t))))) c.deref-3.ensures.value in
     match_result c.put_coefs.result (λ (made : HasMade (coef_at ∷ []) wanted known was four.shows.next _ last). record {
-      shows = subst (λ u. ShowsTables wanted known was u last) tables made.shows;
-      kept = kept_then (meta_at ∷ run_at ∷ run_event_at ∷ derived_at ∷ []) (coef_at ∷ []) (kept_then (meta_at ∷ run_at ∷ run_event_at ∷ []) (derived_at ∷ []) (kept_then (meta_at ∷ run_at ∷ []) (run_event_at ∷ []) (kept_then (meta_at ∷ []) (run_at ∷ []) one.kept two.kept) three.kept) four.kept) made.kept;
+      shows = record { next = made.shows.next; writes = made.shows.writes; holds = subst (λ u. Holds u made.shows.next) tables made.shows.holds };
+      kept = kept_then (meta_at ∷ run_at ∷ run_event_at ∷ derived_at ∷ []) (coef_at ∷ []) _ _ _
+          (kept_then (meta_at ∷ run_at ∷ run_event_at ∷ []) (derived_at ∷ []) _ _ _ (kept_then (meta_at ∷ run_at ∷ []) (run_event_at ∷ []) _ _ _ (kept_then (meta_at ∷ []) (run_at ∷ []) _ _ _ one.kept two.kept) three.kept) four.kept) made.kept;
     })
     (λ e. store_fails_later file c.put_derived.new.file last e ((Keeps-trans _ _ _ (Keeps-trans _ _ _ (Keeps-trans _ _ _ c.put_next.ensures.keeps c.put_run_row.ensures.keeps) c.put_events.ensures.keeps) c.put_derived.ensures.keeps))
-    (λ (fits : CanPutHeadOf run head shows.next). put_still coef_at _ same (subst (λ l. CanBePut coef_at (map coef_columns (map coef_row l)) shows.next) (sym c.deref-3.ensures.value) fits.coefs)))
+    (λ (fits : CanPutHeadOf run head shows.next). put_still coef_at _ shows.next four.shows.next same (subst (λ l. CanBePut coef_at (map coef_columns (map coef_row l)) shows.next) (sym c.deref-3.ensures.value) fits.coefs)))
     five
 
 pub returns-in_err-put_run_row-clause-keeps : goal.returns-in_err-put_run_row-clause-keeps

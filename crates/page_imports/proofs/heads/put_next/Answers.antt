@@ -1,5 +1,6 @@
 use Rattle.std.proofs.Common.{◌≡◌, [], ◌∷◌, ap, inl, refl, subst, sym, ◌∙◌}
 use Rattle.sqlite_rules.specs.Lists.{Has}
+use Rattle.std.proofs.lemmas.Result.{err_from_is_err_and}
 use Rattle.sqlite_trees.specs.Tree.{put_row}
 use Rattle.sqlite_trees.specs.View.{IsShaped}
 use Rattle.sqlite_trees.specs.declared.store.Shape.TheVariants as shape
@@ -8,7 +9,7 @@ use Rattle.store_schema.specs.Schema.{schema_two, meta_at}
 use Rattle.store_schema.specs.Tables.{meta_columns, number}
 use Rattle.table_changes.proofs.Numbered.{next_replaced}
 use Rattle.sqlite_trees.specs.View.{IsStorableRow}
-use Rattle.page_places.proofs.Failing.{row_fails}
+use Rattle.page_places.proofs.Failing.{memory_fails, row_fails}
 use Rattle.page_imports.specs.Causes.{CanBeWritten}
 use Rattle.page_imports.proofs.Failing.{fails_for}
 use Rattle.page_imports.proofs.Kept.{changed_keeps}
@@ -25,11 +26,11 @@ returns-in-Ok-clause-done g c clean = λ wanted known was t shows are above.
     let is : made.next 0 ≡ meta_columns n ∷ [] = made.rows_are ∙ ap (λ l. put_row (number 1 ∷ l) (now 0)) c.in_ok-columns.ensures ∙ ap (put_row (meta_columns n)) rows ∙ next_put t.next n in
     record {
       shows = record { next = made.next; writes = made.writes; holds = next_replaced t now made.next shows.holds made.only (subst (IsShaped shape.Table) (sym made.rows_are) made.shaped) n is above };
-      kept = changed_keeps meta_at made.only;
+      kept = changed_keeps meta_at now made.next made.only;
     }
 
-pub returns-in-Err-clause-done : goal.returns-in-Err-clause-done
-returns-in-Err-clause-done g c clean = λ wanted known was t shows are above.
+pub returns-clause-done : goal.returns-clause-done
+returns-clause-done g c clean = λ wanted known was t shows are above.
     let file = c.args.file.now in
     let new = c.replace.new.file in
     let now = shows.next in
@@ -38,3 +39,8 @@ returns-in-Err-clause-done g c clean = λ wanted known was t shows are above.
     let failed = c.in-Err.ensures.done clean schema_two wanted known was now meta_at (table_at file shows.writes shows.holds 0 meta_at refl _ are.meta tt) (Null ∷ number 2 ∷ number t.next ∷ [], there, tt) in
     fails_for file new _ (λ (can : CanBeWritten meta_at (meta_columns c.args.next)). subst (λ l. IsStorableRow 0 (number 1 ∷ l)) (sym c.in_ok-columns.ensures) can.row)
     (row_fails file new c.in-Err.error _ c.error_of_row.ensures failed)
+
+pub returns-in_err-columns-clause-done : goal.returns-in_err-columns-clause-done
+returns-in_err-columns-clause-done g c clean = λ wanted known was t shows are above.
+    let p = err_from_is_err_and c.from_residual.result c.from_residual.ensures.1 in
+    rw p.1 (memory_fails c.args.file.now c.args.file.now p.0 p.2)

@@ -1,5 +1,6 @@
 use Rattle.std.proofs.Common.{rules, to_z, of_z, w64, pos, ◌≡◌, ◌++◌, [], ◌∷◌, Less, ap, refl, subst, sym, ◌∙◌}
 use Rattle.std.specs.List.{AllByRecursion}
+use Rattle.std.proofs.lemmas.Result.{err_from_is_err_and}
 use Rattle.sqlite_trees.specs.Tree.{rowid}
 use Rattle.sqlite_trees.specs.View.{IsShaped}
 use Rattle.sqlite_trees.specs.declared.store.Shape.TheVariants as shape
@@ -14,7 +15,7 @@ use Rattle.store_schema.proofs.Rows.{runs_below}
 use Rattle.table_changes.proofs.Numbered.{run_behind}
 use Rattle.table_changes.proofs.Store.{runs_there}
 use Rattle.sqlite_trees.specs.View.{IsStorableRow}
-use Rattle.page_places.proofs.Failing.{row_fails}
+use Rattle.page_places.proofs.Failing.{memory_fails, row_fails}
 use Rattle.page_imports.specs.Causes.{CanBeWritten}
 use Rattle.page_imports.proofs.Failing.{fails_for}
 use Rattle.page_imports.proofs.Kept.{changed_keeps}
@@ -35,11 +36,11 @@ returns-in-Ok-clause-done g c clean = λ wanted known was t shows are can.
     let behind : made.next 1 ≡ now 1 ++ run_columns run ∷ [] = made.rows_are ∙ ap (λ z. now 1 ++ (Int z ∷ c.in_ok-columns.columns) ∷ []) id ∙ ap (λ l. now 1 ++ (number run.number ∷ l) ∷ []) c.in_ok-columns.ensures in
     record {
       shows = record { next = made.next; writes = made.writes; holds = run_behind t now made.next shows.holds made.only (subst (IsShaped shape.Table) (sym made.rows_are) made.shaped) run behind (none_equal t.runs run.digest can.none) can.low };
-      kept = changed_keeps run_at made.only;
+      kept = changed_keeps run_at now made.next made.only;
     }
 
-pub returns-in-Err-clause-done : goal.returns-in-Err-clause-done
-returns-in-Err-clause-done g c clean = λ wanted known was t shows are can.
+pub returns-clause-done : goal.returns-clause-done
+returns-clause-done g c clean = λ wanted known was t shows are can.
     let file = c.args.file.now in
     let new = c.insert.new.file in
     let run = run_row c.args.run.now in
@@ -52,3 +53,8 @@ returns-in-Err-clause-done g c clean = λ wanted known was t shows are can.
     let is = ap (λ z. Int z ∷ c.in_ok-columns.columns) id ∙ ap (λ l. number run.number ∷ l) c.in_ok-columns.ensures in
     fails_for file new _ (λ (can : CanBeWritten run_at (run_columns run)). (subst (IsStorableRow 0) (sym is) can.row, subst (λ l. AreStorable l (indexes_of schema_two run_at)) (sym is) can.entries))
     (row_fails file new c.in-Err.error _ c.error_of_row.ensures failed)
+
+pub returns-in_err-columns-clause-done : goal.returns-in_err-columns-clause-done
+returns-in_err-columns-clause-done g c clean = λ wanted known was t shows are can.
+    let p = err_from_is_err_and c.from_residual.result c.from_residual.ensures.1 in
+    rw p.1 (memory_fails c.args.file.now c.args.file.now p.0 p.2)

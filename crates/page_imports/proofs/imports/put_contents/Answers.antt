@@ -32,7 +32,7 @@ returns-clause-done g c clean = λ wanted known was t shows are can.
     let sound = sound_of t shows.next shows.holds in
     let held = added_is_held t.runs (run_row run) in
     let head = c.in_ok-put_head.ensures.done (c.put_rows.ensures.keeps.stays.clean clean) wanted known was t shows are can in
-    match_result c.put_rows.result (λ (made : HasMade row_tables wanted known was head.shows.next _ last). record { shows = made.shows; kept = kept_then head_tables row_tables head.kept made.kept })
+    match_result c.put_rows.result (λ (made : HasMade row_tables wanted known was head.shows.next _ last). record { shows = made.shows; kept = kept_then head_tables row_tables _ _ _ head.kept made.kept })
     (λ e. store_fails_later c.args.file.now c.put_head.new.file last e c.put_head.ensures.keeps (λ (fits : CanBeFiled filed t shows.next). rows_still n content _ fits.rows head.kept))
     (c.put_rows.ensures.done clean wanted known was _ head.shows are (record {
       cells = record { held = held; none = no_lines t n new (λ (c : CellRow). c.run) t.cells sound.cells };

@@ -47,11 +47,11 @@ returns-clause-done g c clean = λ wanted known db t rests holds new.
     let events = c.in_ok-lines.ensures.events content summed.summed in
     let same = file_is n c.number_of_kind.result c.in-Some.call_count c.args.digest.now c.args.label.now lines summed.rows.now t c.args.kind head c.number_of_kind.ensures (c.in-Some.ensures.some ∙ summed.summed.call_count) events c.in_ok-lines.ensures.derived c.in_ok-lines.ensures.coefs in
     let filed_is : written (record { number = n; kind = c.number_of_kind.result; digest = c.args.digest; label = c.args.label; call_count = c.in-Some.call_count }) lines summed.rows.now ≡ filed n c.args.kind c.args.digest.now c.args.label.now head content =
-    filed_same n c.number_of_kind.result c.in-Some.call_count c.args.digest.now c.args.label.now lines summed.rows.now c.args.kind head c.number_of_kind.ensures (c.in-Some.ensures.some ∙ summed.summed.call_count) events c.in_ok-lines.ensures.derived c.in_ok-lines.ensures.coefs in
+    filed_same n _ _ _ _ c.args.digest.now c.args.label.now _ _ _ _ _ _ content c.number_of_kind.ensures (c.in-Some.ensures.some ∙ summed.summed.call_count) events c.in_ok-lines.ensures.derived c.in_ok-lines.ensures.coefs in
     match_result c.put_contents.result
     (λ (made : HasMade (head_tables ++ row_tables) wanted known db db _ c.put_contents.new.file). (made.shows.next, made.shows.writes, subst (λ u. Holds u made.shows.next) same made.shows.holds))
     (λ e. store_fails_later file mid c.put_contents.new.file e c.find_roots.ensures.reads.keeps
-    (λ (can : CanImport n c.args.kind c.args.digest.now c.args.label.now summed t db). subst (λ f. CanBeFiled f t db) (sym filed_is) can.filed))
+    (λ (can : CanImport n c.args.kind c.args.digest.now c.args.label.now summed t db). subst (λ f. CanBeFiled f t db) (sym filed_is) can.lines))
     (c.put_contents.ensures.done clean wanted known db t shows are (record {
       is_new = new;
       lines = record {

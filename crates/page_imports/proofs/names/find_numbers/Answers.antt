@@ -7,7 +7,7 @@ use Rattle.std.proofs.lemmas.Result.{err_from_is_err_and}
 use Rattle.std.proofs.lemmas.Option.{get_or_from_slice_get}
 use Rattle.page_files.proofs.Reading.{OnlyReads-trans}
 use Rattle.page_imports.specs.Names.{AreNumbered}
-use Rattle.page_places.proofs.Failing.{store_fails_later}
+use Rattle.page_places.proofs.Failing.{memory_fails, store_fails_later}
 use Rattle.page_imports.specs.Causes.{HaveNumbers}
 use Rattle.page_imports.specs.Names.{GetSmallNumbers}
 use Rattle.page_imports.proofs.Failing.{fails_for, refuses_fails}
@@ -107,3 +107,8 @@ returns-in_err-take-clause-told g c clean = λ wanted known was t shows are.
     let p = err_from_is_err_and c.from_residual-in_err-take.result c.from_residual-in_err-take.ensures.1 in
     rw (p.1, p.2) (refuses_fails file c.held_number.new.file _
     (λ (can : HaveNumbers names t). front_small t (take at names ++ name ∷ []) (drop (at + 1) names) (subst (λ l. GetSmallNumbers l t) whole can.fit)) refused)
+
+pub returns-in_err-found-clause-told : goal.returns-in_err-found-clause-told
+returns-in_err-found-clause-told g c clean = λ wanted known was t shows are.
+    let p = err_from_is_err_and c.from_residual-in_err-found.result c.from_residual-in_err-found.ensures.1 in
+    rw p.1 (memory_fails c.args.file.now c.next_name.new.file p.0 p.2)

@@ -16,9 +16,9 @@ use Rattle.page_imports.specs.Causes.{AreNarrow}
 use Rattle.page_imports.proofs.names.held_number.Goals as goal
 
 -- what was found
-found_in : {T E : Type 0} (r : Result T E) {P : T → Type 0} {F G : E → Type 0} (A : Type 0) → ((e : E) → F e → G e) → MatchResult r P F → MatchResult r (λ found. A → P found) G
-found_in (Ok found) A so told = λ _. told
-found_in (Err e) A so fails = so e fails
+found_in : {T E : Type 0} (r : Result T E) (P : T → Type 0) (F G : E → Type 0) (A : Type 0) → ((e : E) → F e → G e) → MatchResult r P F → MatchResult r (λ found. A → P found) G
+found_in (Ok found) P F G A so told = λ _. told
+found_in (Err e) P F G A so fails = so e fails
 
 module _ {D : Type 0} {g : Ghosts D} (old new : PageFile D g) (keeps : Keeps (state old.pool) (state new.pool)) (is_open : IsTrue (state old.pool).is_open) (clean : IsFaithful new) (t : Tables) where
   not_found : (e : StoreError) → FailsToFind old new t e → FailsToStore old new (AreNarrow t) e
@@ -36,5 +36,5 @@ pub returns-clause-told : goal.returns-clause-told
 returns-clause-told g c clean = λ wanted known was t shows are.
     let file = c.args.file.now in
     let new = c.find_name.new.file in
-    found_in c.find_name.result _ (not_found file new c.find_name.ensures.reads.keeps shows.writes.is_open clean t)
+    found_in c.find_name.result _ _ _ _ (not_found file new c.find_name.ensures.reads.keeps shows.writes.is_open clean t)
     (c.find_name.ensures.told clean t known (shows_writing file shows.writes shows.holds) are.name_bytes)

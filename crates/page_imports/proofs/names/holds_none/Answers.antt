@@ -29,4 +29,4 @@ returns-in-Err-clause-told g c clean = λ wanted known was t shows are.
     let stands = stands_writing file shows.writes in
     let placed = placed_at wanted shows.next (catalog_shown file stands) shows.holds 5 name_at refl in
     let table = table_stands file stands 11 placed.low _ placed.named.shape placed.plain are.names in
-    reading_fails file c.last_rowid.new.file c.in-Err.error _ c.error_of.ensures c.last_rowid.ensures.reads.keeps shows.writes.is_open clean (c.in-Err.ensures.done clean wanted 11 table)
+    reading_fails file c.last_rowid.new.self c.in-Err.error _ c.error_of.ensures c.last_rowid.ensures.reads.keeps shows.writes.is_open clean (c.in-Err.ensures.done clean wanted 11 table)

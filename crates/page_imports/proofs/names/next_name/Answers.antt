@@ -50,3 +50,14 @@ returns-in-Err-clause-told g c clean = λ wanted known was t shows are.
     let at = table_at file shows.writes shows.holds 5 name_at refl _ are.names (index_at file shows.writes shows.holds 6 _ refl refl _ are.name_bytes refl, tt) in
     not_numbered file new t (shows.next 11) c.in-Err.error _ (next_rowid_is t shows.next shows.holds) c.error_of_row.ensures c.free_rowid.ensures.reads.keeps shows.writes.is_open clean
     (c.in-Err.ensures.done clean schema_two wanted known was shows.next name_at at)
+
+pub returns-in-Err-try_from-clause-told : goal.returns-in-Err-try_from-clause-told
+returns-in-Err-try_from-clause-told g c =
+    let same : to_z w64 (of_z w64 c.in-Ok.rowid) ≡ c.in-Ok.rowid = search (rules, to_z-of_z) in
+    λ clean wanted known was t shows are.
+    let file = c.args.file.now in
+    let at = table_at file shows.writes shows.holds 5 name_at refl _ are.names (index_at file shows.writes shows.holds 6 _ refl refl _ are.name_bytes refl, tt) in
+    let told = c.in-Ok.ensures.done clean schema_two wanted known was shows.next name_at at in
+    let is = same ∙ told.0 ∙ next_rowid_is t shows.next shows.holds in
+    let no : ⊥ = grind (arith, ints, is, c.in-Err-try_from.ensures) in
+    absurd no

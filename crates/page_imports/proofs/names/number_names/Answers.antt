@@ -4,7 +4,7 @@ use Rattle.sqlite_pool.specs.StoredLaws.{Keeps-trans}
 use Rattle.page_places.proofs.Failing.{store_fails_later}
 use Rattle.page_imports.specs.Causes.{CanBeNumbered}
 use Rattle.page_imports.specs.Names.{AreUnheld, bytes_of, with_names}
-use Rattle.page_imports.specs.Steps.{ShowsTables}
+use Rattle.store_schema.specs.Tables.{Holds}
 use Rattle.page_imports.proofs.Failing.{fails_for}
 use Rattle.page_imports.proofs.Stepping.{shows_after}
 use Rattle.page_imports.proofs.names.number_names.Goals as goal
@@ -16,7 +16,10 @@ returns-clause-done g c clean = λ wanted known was t shows are.
     let there = shows_after c.args.file.now c.find_numbers.new.file c.find_numbers.ensures.reads early c.in_ok-found.ensures.usable shows in
     let listed = c.deref.ensures.value in
     let made = c.in_ok-put_names.ensures.done clean wanted known was t there are (subst (λ l. AreUnheld (bytes_of l) t) (sym listed) told.unheld) in (
-      record { shows = subst (λ u. ShowsTables wanted known was u c.put_names.new.file) (ap (λ l. with_names (bytes_of l) t) listed ∙ sym told.named) made.shows; kept = made.kept },
+      record {
+        shows = record { next = made.shows.next; writes = made.shows.writes; holds = subst (λ u. Holds u made.shows.next) (ap (λ l. with_names (bytes_of l) t) listed ∙ sym told.named) made.shows.holds };
+        kept = made.kept;
+      },
       told.numbers,
     )
 

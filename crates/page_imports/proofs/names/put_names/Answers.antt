@@ -24,5 +24,5 @@ returns-clause-done g c clean = λ wanted known was t shows are unheld.
         writes = made.writes;
         holds = names_filled t now made.next shows.holds (bytes_of news) unheld (subst (IsTableFilled schema_two now made.next name_at) columns made.filled);
       };
-      kept = filled_keeps name_at refl made.filled.spared;
+      kept = filled_keeps name_at now made.next refl made.filled.spared;
     }) (λ e. fails_for file c.fill.new.file e (subst (λ l. CanBePut name_at l now) (sym columns))) (c.fill.ensures.done clean schema_two wanted known was now name_at at)

@@ -30,7 +30,7 @@ returns-clause-done g c clean = λ wanted known was t shows are can.
         writes = made.writes;
         holds = calls_filled t now made.next shows.holds run can.held news (record { of_run = calls_of_run run c.args.numbers.now (content_of c.args.rows.now).calls; none = can.none }) (subst (IsTableFilled schema_two now made.next arc_at) columns made.filled);
       };
-      kept = filled_keeps arc_at refl made.filled.spared;
+      kept = filled_keeps arc_at now made.next refl made.filled.spared;
     })
     (λ e. fails_for file c.fill.new.file e (λ (can : CanPutCalls run c.args.numbers.now (content_of c.args.rows.now).calls now). subst (λ l. CanBePut arc_at l now) (sym columns) can.put))
     (c.fill.ensures.done clean schema_two wanted known was now arc_at at)

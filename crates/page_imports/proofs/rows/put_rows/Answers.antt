@@ -9,10 +9,11 @@ use Rattle.plain_tables.specs.Files.{all_named, numbers_in}
 use Rattle.prof_books.specs.Files.{call_rows, cell_rows, stack_rows}
 use Rattle.prof_books.proofs.Names.{all_grown}
 use Rattle.row_writes.proofs.Outcomes.{match_result}
+use Rattle.store_schema.specs.Tables.{Holds}
 use Rattle.store_schema.specs.Schema.{schema_two, name_at, arc_at, stack_at, thread_cell_at}
 use Rattle.page_imports.specs.Causes.{CanBeNumbered, CanPutRows}
 use Rattle.page_imports.specs.Needs.{HasNoRow}
-use Rattle.page_imports.specs.Steps.{HasMade, ShowsTables}
+use Rattle.page_imports.specs.Steps.{HasMade}
 use Rattle.page_imports.proofs.Carried.{calls_still, cells_still, stacks_still}
 use Rattle.page_imports.proofs.Failing.{fails_for}
 use Rattle.page_imports.proofs.Kept.{kept_then}
@@ -108,8 +109,8 @@ returns-clause-done g c clean = λ wanted known was t shows are can.
     ap₂ (λ (n m : List ℕ). stacks (with_calls (call_rows run m content.calls) (with_cells (cell_rows run n content.cells) named))) (c.deref.ensures.value ∙ one.1) (c.deref-2.ensures.value ∙ one.1)
     ∙ ap (λ (l : List (List ℕ)). let held = all_named l t in stacks (with_calls (call_rows run (numbers_in held l) content.calls) (with_cells (cell_rows run (numbers_in held l) content.cells) held))) c.names.ensures in
     match_result c.put_stacks.result (λ (made : HasMade (stack_at ∷ []) wanted known was three.shows.next _ last). record {
-      shows = subst (λ u. ShowsTables wanted known was u last) tables made.shows;
-      kept = kept_then (name_at ∷ thread_cell_at ∷ arc_at ∷ []) (stack_at ∷ []) (kept_then (name_at ∷ thread_cell_at ∷ []) (arc_at ∷ []) (kept_then (name_at ∷ []) (thread_cell_at ∷ []) one.0.kept two.kept) three.kept) made.kept;
+      shows = record { next = made.shows.next; writes = made.shows.writes; holds = subst (λ u. Holds u made.shows.next) tables made.shows.holds };
+      kept = kept_then (name_at ∷ thread_cell_at ∷ arc_at ∷ []) (stack_at ∷ []) _ _ _ (kept_then (name_at ∷ thread_cell_at ∷ []) (arc_at ∷ []) _ _ _ (kept_then (name_at ∷ []) (thread_cell_at ∷ []) _ _ _ one.0.kept two.kept) three.kept) made.kept;
     })
     (λ e. store_fails_later file c.put_calls.new.file last e (Keeps-trans _ _ _ (Keeps-trans _ _ _ c.number_names.ensures.keeps c.put_cells.ensures.keeps) c.put_calls.ensures.keeps) (λ (fits : CanPutRows run content t shows.next). stacks_still run content t fits same))
     four

@@ -30,7 +30,7 @@ returns-clause-done g c clean = λ wanted known was t shows are can.
         writes = made.writes;
         holds = stacks_filled t now made.next shows.holds run can.held news (record { of_run = stacks_of_run run (content_of c.args.rows.now).stacks; none = can.none }) (subst (IsTableFilled schema_two now made.next stack_at) columns made.filled);
       };
-      kept = filled_keeps stack_at refl made.filled.spared;
+      kept = filled_keeps stack_at now made.next refl made.filled.spared;
     })
     (λ e. fails_for file c.fill.new.file e (λ (can : CanPutStacks run (content_of c.args.rows.now).stacks now). subst (λ l. CanBePut stack_at l now) (sym columns) can.put))
     (c.fill.ensures.done clean schema_two wanted known was now stack_at at)
