@@ -45,6 +45,9 @@ fn again<'a>(work: &Work<'a>) -> Option<Work<'a>>
     }
 }
 
+/// So often it is tried, even where that takes longer than patience lasts.
+const LEAST_TRIES: u32 = 3;
+
 /// Whether what a work reads beside the store can be read once more: a pipe cannot. No guarantee: of files the checker
 /// knows nothing.
 fn has_lasting_source(rt: &HostRuntime, work: &Work<'_>) -> bool {
@@ -102,12 +105,14 @@ pub fn work_beside<'a>(
     if is_no_file(path) || !has_lasting_source(rt, work) {
         return Beside::Unfit;
     }
-    'tries: for _ in 0..TRIES {
+    'tries: for turn in 0..TRIES {
         let Some(work) = again(work) else {
             return Beside::Unfit;
         };
         match work_once(rt, path, work) {
-            Beside::Moved if patience.is_left(rt) => {}
+            Beside::Moved if patience.is_left(rt) || turn < LEAST_TRIES => {}
+            // While another makes the files, or opens them, they may be so for a moment.
+            Beside::Unfit if turn == 0 => {}
             came_to => return came_to,
         }
     }
