@@ -1,5 +1,5 @@
 -- Why a step of an import fails, as a part of the whole.
-use Rattle.std.proofs.Common.{◌≡◌, inl, inr, refl}
+use Rattle.std.proofs.Common.{inl, inr, refl}
 use Rattle.sqlite_disk.specs.declared.Disk.{Ghosts}
 use Rattle.page_files.specs.declared.files.PageFile.{PageFile}
 use Rattle.page_places.specs.Failures.{FailsToStore}

@@ -2,6 +2,7 @@ pub mod Carried
 pub mod Failing
 pub mod Filing
 pub mod Kept
+pub mod Made
 pub mod Named
 pub mod Numbers
 pub mod Results

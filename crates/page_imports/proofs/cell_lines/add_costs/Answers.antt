@@ -1,4 +1,4 @@
-use Rattle.std.proofs.Common.{◌≡◌, ℕ, ◌∷◌, ◌++◌, ◌+◌, ◌<◌, length, map, take, get_or, sym, ap, ◌∙◌, rules, arith, length-take-le}
+use Rattle.std.proofs.Common.{◌≡◌, ℕ, ◌++◌, ◌+◌, ◌<◌, length, map, take, get_or, sym, ap, ◌∙◌, rules, arith, length-take-le}
 use Rattle.std.proofs.lemmas.List.{append_assoc, take_more}
 use Rattle.cost_rows.proofs.AboveLemmas.{above-more}
 use Rattle.std.proofs.lemmas.Result.{err_from_is_err_and}

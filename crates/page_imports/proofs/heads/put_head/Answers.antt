@@ -1,24 +1,104 @@
-use Rattle.std.proofs.Common.{rules, ◌≡◌, List, [], ◌∷◌, suc, ◌+◌, ◌<◌, ◌≤◌, ◌^◌, map, inr, refl, ap, subst, sym, ◌∙◌, arith}
+use Rattle.std.proofs.Common.{rules, ◌≡◌, ℕ, false, List, [], ◌∷◌, suc, ◌+◌, ◌<◌, ◌≤◌, ◌^◌, map, inr, refl, ap, subst, sym, ◌∙◌, arith}
 use Rattle.std.specs.List.{AllByRecursion}
 use Rattle.std.proofs.lemmas.Result.{err_from_is_err_and}
 use Rattle.sqlite_pool.specs.StoredLaws.{Keeps-trans}
 use Rattle.sqlite_rules.proofs.ListLemmas.{has_got}
 use Rattle.sqlite_trees.proofs.ListLemmas.{all_weaker}
 use Rattle.page_places.proofs.Failing.{store_fails_later}
-use Rattle.plain_tables.specs.Changes.{with_coefs, with_derived, with_events, with_next, with_run}
-use Rattle.plain_tables.specs.Tables.{RunRow, EventRow, DerivedRow, CoefRow}
-use Rattle.row_writes.proofs.Outcomes.{match_result}
+use Rattle.plain_tables.specs.Changes.{has_run, with_coefs, with_derived, with_events, with_next, with_run}
+use Rattle.plain_tables.specs.Tables.{Tables, RunRow, EventRow, DerivedRow, CoefRow}
 use Rattle.store_schema.specs.Lines.{coef_row, derived_row, event_row, run_row}
 use Rattle.store_schema.specs.Schema.{schema_two, meta_at, run_at, run_event_at, derived_at, coef_at}
+use Rattle.store_schema.specs.Steps.{IsAbove}
+use Rattle.store_schema.specs.declared.table_rows.HeadRows.{HeadRows}
+use Rattle.store_schema.specs.declared.table_rows.RunRow.{RunRow as RunLine}
+use Rattle.run_lines.specs.Runs.{with_head_of}
+use Rattle.sqlite_trees.specs.Tree.{Trees}
+use Rattle.page_imports.specs.Needs.{CanAdd, CanBegin, CanFill}
+use Rattle.page_imports.specs.Steps.{KeepsOthers, head_tables}
 use Rattle.store_schema.specs.Tables.{Holds, meta_columns, event_columns, derived_columns, coef_columns}
 use Rattle.store_schema.proofs.Sound.{sound_of}
 use Rattle.page_imports.specs.Causes.{CanBePut, CanBeWritten, CanPutHeadOf}
-use Rattle.page_imports.specs.Steps.{HasMade}
 use Rattle.page_imports.proofs.Carried.{put_still}
 use Rattle.page_imports.proofs.Failing.{fails_for}
-use Rattle.page_imports.proofs.Kept.{kept_then}
+use Rattle.page_imports.proofs.Made.{made_then, makes_as, makes_then}
 use Rattle.page_imports.proofs.Runs.{above_is_new, added_is_held, no_lines}
 use Rattle.page_imports.proofs.heads.put_head.Goals as goal
+
+-- ---- what each step needs, where the run is new
+
+module _ (run : RunLine) (head : HeadRows) (t : Tables) (now : Trees) (holds : Holds t now) (can : CanBegin run head t) where
+  below : AllByRecursion (λ (r : RunRow). r.number < run.number) t.runs
+  below = subst (λ m. AllByRecursion (λ (r : RunRow). r.number < m) t.runs) can.is_new.next holds.below
+
+  is_new : has_run t run.number ≡ false
+  is_new = above_is_new t run.number below
+
+needs_row : (run : RunLine) (head : HeadRows) (next : ℕ) → next ≡ run.number + 1 → (t : Tables) (now : Trees) → Holds t now → CanBegin run head t → IsAbove next t × CanAdd run.number run.digest.now (with_next next t)
+needs_row run head next more t now holds can =
+    let above = below run head t now holds can in (
+      all_weaker (λ (r : RunRow). r.number < run.number) (λ (r : RunRow). r.number < next) (λ r low. omega (arith, low, more)) t.runs above,
+      record { low = omega (arith, more); above = above; none = can.is_new.none },
+    )
+
+needs_events : (run : RunLine) (head : HeadRows) (next : ℕ) (es : List EventRow) → es ≡ map event_row head.events.items → (t : Tables) (now : Trees) → Holds t now → CanBegin run head t
+    → CanBegin run head t × CanFill (λ t. t.events) (λ line. line.run) run.number es (with_run (run_row run) (with_next next t))
+needs_events run head next es are t now holds can = (
+  can,
+  record {
+    held = added_is_held t.runs (run_row run);
+    of_run = record {
+      of_run = subst (AllByRecursion (λ (e : EventRow). e.run ≡ run.number)) (sym are) can.lines.events_of;
+      none = no_lines t run.number (is_new run head t now holds can) (λ (e : EventRow). e.run) t.events (sound_of t now holds).events;
+    };
+  },
+)
+
+needs_derived : (run : RunLine) (head : HeadRows) (next : ℕ) (es : List EventRow) (ds : List DerivedRow) → ds ≡ map derived_row head.derived.items → (t : Tables) (now : Trees) → Holds t now → CanBegin run head t
+    → CanBegin run head t × CanFill (λ t. t.derived) (λ line. line.run) run.number ds (with_events es (with_run (run_row run) (with_next next t)))
+needs_derived run head next es ds are t now holds can = (
+  can,
+  record {
+    held = added_is_held t.runs (run_row run);
+    of_run = record {
+      of_run = subst (AllByRecursion (λ (d : DerivedRow). d.run ≡ run.number)) (sym are) can.lines.derived_of;
+      none = no_lines t run.number (is_new run head t now holds can) (λ (d : DerivedRow). d.run) t.derived (sound_of t now holds).derived;
+    };
+  },
+)
+
+needs_coefs : (run : RunLine) (head : HeadRows) (next : ℕ) (es : List EventRow) (ds : List DerivedRow) (ks : List CoefRow) → ks ≡ map coef_row head.coefs.items → (t : Tables) (now : Trees) → Holds t now → CanBegin run head t
+    → CanBegin run head t × CanFill (λ t. t.coefs) (λ line. line.run) run.number ks (with_derived ds (with_events es (with_run (run_row run) (with_next next t))))
+needs_coefs run head next es ds ks are t now holds can = (
+  can,
+  record {
+    held = added_is_held t.runs (run_row run);
+    of_run = record {
+      of_run = subst (AllByRecursion (λ (k : CoefRow). k.run ≡ run.number)) (sym are) can.lines.coefs_of;
+      none = no_lines t run.number (is_new run head t now holds can) (λ (k : CoefRow). k.run) t.coefs (sound_of t now holds).coefs;
+    };
+  },
+)
+
+-- the steps before leave the table of coefficients
+coefs_still : (run : RunLine) (head : HeadRows) (ks : List CoefRow) → ks ≡ map coef_row head.coefs.items → (t : Tables) (now next : Trees) → CanPutHeadOf run head now
+    → KeepsOthers (meta_at ∷ run_at ∷ run_event_at ∷ derived_at ∷ []) now next → CanBePut coef_at (map coef_columns ks) next
+coefs_still run head ks are t now next fits kept =
+    put_still coef_at (map coef_columns ks) now next (kept coef_at (has_got schema_two.tables 4 coef_at refl) refl)
+    (subst (λ l. CanBePut coef_at (map coef_columns l) now) (sym are) fits.coefs)
+
+-- what all make is the head
+same_tables : (run : RunLine) (head : HeadRows) (next : ℕ) (es : List EventRow) (ds : List DerivedRow) (ks : List CoefRow) → next ≡ suc run.number → es ≡ map event_row head.events.items
+    → ds ≡ map derived_row head.derived.items → ks ≡ map coef_row head.coefs.items → (t : Tables)
+    → with_coefs ks (with_derived ds (with_events es (with_run (run_row run) (with_next next t)))) ≡ with_head_of run head t
+same_tables run head next es ds ks n e d k t =
+    let begun : ℕ → Tables = λ m. with_run (run_row run) (with_next m t) in
+    let events = map event_row head.events.items in
+    let derived = map derived_row head.derived.items in
+    ap (λ m. with_coefs ks (with_derived ds (with_events es (begun m)))) n
+    ∙ ap (λ l. with_coefs ks (with_derived ds (with_events l (begun (suc run.number))))) e
+    ∙ ap (λ l. with_coefs ks (with_derived l (with_events events (begun (suc run.number))))) d
+    ∙ ap (λ l. with_coefs l (with_derived derived (with_events events (begun (suc run.number))))) k
 
 pub returns-in_default-clause-done : goal.returns-in_default-clause-done
 returns-in_default-clause-done g c clean = λ wanted known was t shows are can.
@@ -118,54 +198,33 @@ returns-in_err-put_derived-clause-done g c clean = λ wanted known was t shows a
     (λ (fits : CanPutHeadOf run head shows.next). put_still derived_at _ shows.next three.shows.next same (subst (λ l. CanBePut derived_at (map derived_columns (map derived_row l)) shows.next) (sym c.deref-2.ensures.value) fits.derived)) four)
 
 pub returns-clause-done : goal.returns-clause-done
-returns-clause-done g c clean = λ wanted known was t shows are can.
-    let after_4 = clean in
-    let after_3 = c.put_coefs.ensures.keeps.stays.clean after_4 in
-    let after_2 = c.put_derived.ensures.keeps.stays.clean after_3 in
-    let after_1 = c.put_events.ensures.keeps.stays.clean after_2 in
-    let after_0 = c.put_run_row.ensures.keeps.stays.clean after_1 in
+returns-clause-done g c =
     let file = c.args.file.now in
+    let roots = c.args.roots.now in
     let run = c.args.run.now in
     let head = c.args.head.now in
     let n = run.number in
     let next = c.in-Some.next in
     let more : next ≡ n + 1 = search rules in
-    let above = subst (λ m. AllByRecursion (λ (r : RunRow). r.number < m) t.runs) can.is_new.next shows.holds.below in
-    let below_next = all_weaker (λ (r : RunRow). r.number < n) (λ (r : RunRow). r.number < next) (λ r low. omega (arith, low, more)) t.runs above in
-    let new = above_is_new t n above in
-    let sound = sound_of t shows.next shows.holds in
-    let held = added_is_held t.runs (run_row run) in
-    let one = c.in_ok-put_next.ensures.done after_0 wanted known was t shows are below_next in
-    let two = c.in_ok-put_run_row.ensures.done after_1 wanted known was (with_next next t) one.shows are (record { low = omega (arith, more); above = above; none = can.is_new.none }) in
-    let events = with_events (map event_row c.deref.result.now) in
-    let events_of = subst (λ l. AllByRecursion (λ (e : EventRow). e.run ≡ n) (map event_row l)) (sym c.deref.ensures.value) can.lines.events_of in
-    let three = c.in_ok-put_events.ensures.done n after_2 wanted known was (with_run (run_row run) (with_next next t)) two.shows are
-    (record { held = held; of_run = record { of_run = events_of; none = no_lines t n new (λ (e : EventRow). e.run) t.events sound.events } }) in
-    let derived = with_derived (map derived_row c.deref-2.result.now) in
-    let derived_of = subst (λ l. AllByRecursion (λ (d : DerivedRow). d.run ≡ n) (map derived_row l)) (sym c.deref-2.ensures.value) can.lines.derived_of in
-    let four = c.in_ok-put_derived.ensures.done n after_3 wanted known was (events (with_run (run_row run) (with_next next t))) three.shows are
-    (record { held = held; of_run = record { of_run = derived_of; none = no_lines t n new (λ (d : DerivedRow). d.run) t.derived sound.derived } }) in
-    let coefs = with_coefs (map coef_row c.deref-3.result.now) in
-    let coefs_of = subst (λ l. AllByRecursion (λ (k : CoefRow). k.run ≡ n) (map coef_row l)) (sym c.deref-3.ensures.value) can.lines.coefs_of in
-    let five = c.put_coefs.ensures.done n after_4 wanted known was (derived (events (with_run (run_row run) (with_next next t)))) four.shows are
-    (record { held = held; of_run = record { of_run = coefs_of; none = no_lines t n new (λ (k : CoefRow). k.run) t.coefs sound.coefs } }) in
     let suc_is : next ≡ suc n = omega (arith, more) in
-    let last = c.put_coefs.new.file in
-    let there = has_got schema_two.tables 4 coef_at refl in
-    let same = four.kept coef_at there refl ∙ three.kept coef_at there refl ∙ two.kept coef_at there refl ∙ one.kept coef_at there refl in
-    let tables =
-    ap (λ m. coefs (derived (events (with_run (run_row run) (with_next m t))))) suc_is
-    ∙ ap (λ (l : List _). coefs (derived (with_events (map event_row l) (with_run (run_row run) (with_next (suc n) t))))) c.deref.ensures.value
-    ∙ ap (λ (l : List _). coefs (with_derived (map derived_row l) (with_events (map event_row head.events.items) (with_run (run_row run) (with_next (suc n) t))))) c.deref-2.ensures.value
-    ∙ ap (λ (l : List _). with_coefs (map coef_row l) (with_derived (map derived_row head.derived.items) (with_events (map event_row head.events.items) (with_run (run_row run) (with_next (suc n) t))))) c.deref-3.ensures.value in
-    match_result c.put_coefs.result (λ (made : HasMade (coef_at ∷ []) wanted known was four.shows.next _ last). record {
-      shows = record { next = made.shows.next; writes = made.shows.writes; holds = subst (λ u. Holds u made.shows.next) tables made.shows.holds };
-      kept = kept_then (meta_at ∷ run_at ∷ run_event_at ∷ derived_at ∷ []) (coef_at ∷ []) _ _ _
-          (kept_then (meta_at ∷ run_at ∷ run_event_at ∷ []) (derived_at ∷ []) _ _ _ (kept_then (meta_at ∷ run_at ∷ []) (run_event_at ∷ []) _ _ _ (kept_then (meta_at ∷ []) (run_at ∷ []) _ _ _ one.kept two.kept) three.kept) four.kept) made.kept;
-    })
-    (λ e. store_fails_later file c.put_derived.new.file last e ((Keeps-trans _ _ _ (Keeps-trans _ _ _ (Keeps-trans _ _ _ c.put_next.ensures.keeps c.put_run_row.ensures.keeps) c.put_events.ensures.keeps) c.put_derived.ensures.keeps))
-    (λ (fits : CanPutHeadOf run head shows.next). put_still coef_at _ shows.next four.shows.next same (subst (λ l. CanBePut coef_at (map coef_columns (map coef_row l)) shows.next) (sym c.deref-3.ensures.value) fits.coefs)))
-    five
+    let es = map event_row c.deref.result.now in
+    let ds = map derived_row c.deref-2.result.now in
+    let ks = map coef_row c.deref-3.result.now in
+    let begun : Tables → Tables = λ t. with_run (run_row run) (with_next next t) in
+    let after_3 = c.put_coefs.ensures.keeps.stays.clean in
+    let two = made_then file c.put_next.new.file c.put_run_row.new.file roots (meta_at ∷ []) (run_at ∷ []) (IsAbove next) (CanAdd n run.digest.now) (CanBegin run head) (with_next next) (with_run (run_row run))
+    c.put_run_row.ensures.keeps.stays.clean (needs_row run head next more) c.in_ok-put_next.ensures.done c.in_ok-put_run_row.ensures.done in
+    let three = made_then file c.put_run_row.new.file c.put_events.new.file roots (meta_at ∷ run_at ∷ []) (run_event_at ∷ []) (CanBegin run head) (CanFill (λ t. t.events) (λ line. line.run) n es) (CanBegin run head) begun (with_events es)
+    c.put_events.ensures.keeps.stays.clean (needs_events run head next es (ap (map event_row) c.deref.ensures.value)) two (c.in_ok-put_events.ensures.done n) in
+    let four = made_then file c.put_events.new.file c.put_derived.new.file roots (meta_at ∷ run_at ∷ run_event_at ∷ []) (derived_at ∷ []) (CanBegin run head) (CanFill (λ t. t.derived) (λ line. line.run) n ds) (CanBegin run head)
+    (λ t. with_events es (begun t)) (with_derived ds) c.put_derived.ensures.keeps.stays.clean (needs_derived run head next es ds (ap (map derived_row) c.deref-2.ensures.value)) three (c.in_ok-put_derived.ensures.done n) in
+    let keeps = Keeps-trans _ _ _ (Keeps-trans _ _ _ (Keeps-trans _ _ _ c.put_next.ensures.keeps c.put_run_row.ensures.keeps) c.put_events.ensures.keeps) c.put_derived.ensures.keeps in
+    makes_as file c.put_coefs.new.file roots head_tables (CanBegin run head) (λ t. with_coefs ks (with_derived ds (with_events es (begun t)))) (with_head_of run head) (λ _. CanPutHeadOf run head) c.put_coefs.result
+    (same_tables run head next es ds ks suc_is (ap (map event_row) c.deref.ensures.value) (ap (map derived_row) c.deref-2.ensures.value) (ap (map coef_row) c.deref-3.ensures.value))
+    (makes_then file c.put_derived.new.file c.put_coefs.new.file roots (meta_at ∷ run_at ∷ run_event_at ∷ derived_at ∷ []) (coef_at ∷ []) (CanBegin run head) (CanFill (λ t. t.coefs) (λ line. line.run) n ks) (CanBegin run head)
+    (λ t. with_derived ds (with_events es (begun t))) (with_coefs ks) after_3 (needs_coefs run head next es ds ks (ap (map coef_row) c.deref-3.ensures.value)) four
+    (λ _. CanBePut coef_at (map coef_columns ks)) (λ _. CanPutHeadOf run head) c.put_coefs.result keeps
+    (coefs_still run head ks (ap (map coef_row) c.deref-3.ensures.value)) (c.put_coefs.ensures.done n))
 
 pub returns-in_err-put_run_row-clause-keeps : goal.returns-in_err-put_run_row-clause-keeps
 returns-in_err-put_run_row-clause-keeps g c = Keeps-trans _ _ _ c.put_next.ensures.keeps c.put_run_row.ensures.keeps

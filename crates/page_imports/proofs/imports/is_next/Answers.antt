@@ -7,7 +7,7 @@ use Rattle.page_imports.proofs.imports.is_next.Goals as goal
 -- some run has the digest
 one_has : (digest : List ℕ) (t : Tables) (found : Option ℕ) → is_none found ≡ false → IsRunOf digest t found → ((r : RunRow) → Has t.runs r → r.digest ≢ digest) → ⊥
 one_has digest t None some is none = absurd cc
-one_has digest t (Some n) some is none = none is.0 is.1 is.2.0
+one_has digest t (Some n) some is none = none is.0 is.1 is.2
 
 pub returns-then-next_run-number : goal.returns-then-next_run-number
 returns-then-next_run-number c = record {

@@ -1,9 +1,21 @@
-use Rattle.std.proofs.Common.{◌≡◌, false, inr, refl, subst, sym, ◌∙◌}
+use Rattle.std.proofs.Common.{inr, refl, sym, ◌∙◌}
+use Rattle.std.proofs.lemmas.Bool.{true≢false}
 use Rattle.page_imports.specs.Causes.{CanImport}
-use Rattle.page_imports.proofs.Failing.{fails_for}
 use Rattle.page_imports.proofs.Results.{at_err, if_err, on_any, when_ok}
 use Rattle.page_imports.proofs.Runs.{none_reached}
 use Rattle.page_imports.proofs.imports.put_run.Goals as goal
+use Rattle.page_imports.proofs.imports.put_run.Goals.{then-is_reached-via-then-is_reached, then-is_reached-via-else-is_reached+then-not-is_next}
+
+pub returns-then-is_reached-clause-failed : goal.returns-then-is_reached-clause-failed
+returns-then-is_reached-clause-failed g c clean = λ wanted known db t rests holds listed.
+    inr (
+      refl,
+      λ (can : CanImport c.args.number c.args.kind c.args.digest.now c.args.label.now c.args.summed.now t db). elim c.then-is_reached.branch [
+        | then-is_reached-via-then-is_reached w ↦
+            true≢false (sym w.if-is_reached.true ∙ c.is_reached.ensures ∙ none_reached t c.args.lists.now c.args.number listed holds.below can.is_new.next)
+        | then-is_reached-via-else-is_reached+then-not-is_next w ↦ w.is_next.ensures.refused t listed w.if-not-is_next.true can.is_new
+      ],
+    )
 
 pub returns-clause-done : goal.returns-clause-done
 returns-clause-done g c clean = λ wanted known db t rests holds listed.
