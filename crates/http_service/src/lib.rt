@@ -2,8 +2,6 @@
 //! the warehouse, and the response is sent.
 #![tactic(auto)]
 
-// A socket as a stream, with its deadlines.
-mod connection;
 // The exchange (specs/Exchanges.antt).
 mod exchange;
 // Lines about requests that were served.

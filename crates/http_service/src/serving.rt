@@ -1,19 +1,18 @@
-// Clients are served, one after another (specs/Served.antt).
+// Clients are served, one at a time (specs/Served.antt).
 ghost use Rattle.std.specs.Prelude.{◌≡◌};
 ghost use Rattle.run_stores.specs.Calls.{IsFaithful};
 ghost use Rattle.http_exchange.specs.Routes as spec;
 ghost use Rattle.http_service.specs.Served.{CameToServed, HasServed};
 
-use crate::connection::Connection;
 use crate::logging::log;
 use crate::{Exchange, Room, answer};
 use histories::Limits;
+use http_clients::{Client, Clients};
 use http_exchange::{FIELD_LIMIT, HEAD_LIMIT, Place, RESPONSE_ROOM, routes};
 use httparse::spans::EMPTY_HEADER_SPAN;
 use matchit::Router;
 use run_stores::RunStore;
 use std::io;
-use std::io::ErrorKind;
 use std::net::{Ipv4Addr, SocketAddr, TcpListener};
 use std::rt::HostRuntime;
 use warehouse::Warehouse;
@@ -29,19 +28,18 @@ pub struct Service {
     pub log: bool,
 }
 
-/// The next client, where it did not go away again while it waited. No guarantee: of the network the checker
-/// knows nothing.
-fn next_client<'a>(
-    rt: &'a HostRuntime,
-    listener: &TcpListener,
-) -> io::Result<Option<(Connection<'a>, SocketAddr)>> {
-    match listener.accept() {
-        Ok((socket, address)) => match Connection::new(rt, socket) {
-            Ok(connection) => Ok(Some((connection, address))),
-            Err(_) => Ok(None),
-        },
-        Err(error) if error.kind() == ErrorKind::ConnectionAborted => Ok(None),
-        Err(error) => Err(error),
+/// Ends the connection to a client that was served. One whose request was refused may still send a body that nobody
+/// read; one that was not answered has nothing to see. No guarantee: of the network the checker knows nothing.
+fn end_client<'a>(
+    clients: &mut Clients<'a>,
+    room: &mut Room,
+    client: Client<'a>,
+    exchange: Exchange,
+) -> io::Result<()> {
+    match exchange {
+        Exchange::Sent(200 | 201) => client.0.close(&mut room.head),
+        Exchange::Sent(_) => clients.end(client),
+        Exchange::ReadFault | Exchange::WriteFault(_) => Ok(()),
     }
 }
 
@@ -51,7 +49,8 @@ fn serve_client<'a, S: RunStore>(
     router: &Router<Place>,
     warehouse: &mut Warehouse<S>,
     room: &mut Room,
-    client: Option<(Connection<'a>, SocketAddr)>,
+    clients: &mut Clients<'a>,
+    client: Option<Client<'a>>,
     is_logged: bool,
 )
     requires router { router.now ≡ spec.routes }
@@ -66,12 +65,15 @@ fn serve_client<'a, S: RunStore>(
         // A log that cannot be written stops no service.
         let _logged = log(rt, address, connection.first_line(&room.head), exchange);
     }
-    // A request that was refused may have a body that nobody read.
-    let was_wanted = matches!(exchange, Exchange::Sent(200 | 201));
-    let _closed = connection.close(was_wanted, &mut room.head);
+    let _ended = end_client(clients, room, (connection, address), exchange);
 }
 
-/// Answers so many clients, one after another. False where one could not be accepted.
+/// The clients of a listener. No guarantee: of the network the checker knows nothing.
+fn clients_of<'a>(rt: &'a HostRuntime, listener: &TcpListener) -> io::Result<Clients<'a>> {
+    Clients::new(rt, listener.try_clone()?)
+}
+
+/// Answers so many clients, one at a time. False where one could not be accepted.
 pub fn serve_on<S: RunStore>(
     rt: &HostRuntime,
     listener: &TcpListener,
@@ -89,12 +91,16 @@ pub fn serve_on<S: RunStore>(
         fields: [EMPTY_HEADER_SPAN; FIELD_LIMIT],
         response: [0u8; RESPONSE_ROOM],
     };
+    let Ok(mut clients) = clients_of(rt, listener) else {
+        return false;
+    };
     'clients: for _client in 0..requests {
-        let Ok(client) = next_client(rt, listener) else {
+        let Ok(client) = clients.next(&mut room.head, &mut room.fields) else {
             return false;
         };
-        serve_client(rt, router, warehouse, &mut room, client, is_logged);
+        serve_client(rt, router, warehouse, &mut room, &mut clients, client, is_logged);
     }
+    let _ended = clients.finish(&mut room.head, &mut room.fields);
     true
 }
 

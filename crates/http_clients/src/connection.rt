@@ -9,19 +9,13 @@ use std::net::{Shutdown, TcpStream};
 use std::rt::HostRuntime;
 use std::time::{Duration, Instant};
 
-/// How many seconds all of a head may take.
-const HEAD_SECONDS: u64 = 10;
-
 /// How many seconds a piece of a body or of a response may take, and how many bytes it has.
 const PIECE_SECONDS: u64 = 30;
 
 const PIECE: usize = 65_536;
 
-/// How many seconds bytes that nobody asked for are read before a connection is closed.
-const DRAIN_SECONDS: u64 = 1;
-
-/// How often bytes are read then, as many as a head may have at a time: as many as a file may have.
-const DRAIN_PIECES: usize = 65_536;
+/// How often bytes that nobody asked for are read, as many as a head may have at a time, before a connection is closed.
+const PIECES_BEHIND: usize = 16;
 
 /// How many bytes of a request tell which one it was.
 const FIRST_BYTES: usize = 512;
@@ -35,16 +29,16 @@ enum Stage {
 }
 
 /// So many seconds from now. No guarantee: of the clock the checker knows nothing.
-fn from_now(rt: &HostRuntime, seconds: u64) -> io::Result<Instant> {
+pub(crate) fn from_now(rt: &HostRuntime, seconds: u64) -> io::Result<Instant> {
     match Instant::now(rt)?.checked_add(Duration::from_secs(seconds)) {
         Some(end) => Ok(end),
         None => Err(io::Error::from(ErrorKind::TimedOut)),
     }
 }
 
-/// A client that was accepted.
+/// A client whose request is read and answered.
 #[derive(Drop)]
-pub(crate) struct Connection<'a> {
+pub struct Connection<'a> {
     rt: &'a HostRuntime,
     socket: TcpStream,
     stage: Stage,
@@ -56,18 +50,17 @@ pub(crate) struct Connection<'a> {
 }
 
 impl<'a> Connection<'a> {
-    /// The connection of a socket: its head has to come in time. No guarantee: of a socket the checker knows
+    /// The connection of a socket whose head has to come until then. No guarantee: of a socket the checker knows
     /// nothing.
-    pub(crate) fn new(rt: &'a HostRuntime, socket: TcpStream) -> io::Result<Connection<'a>> {
-        let until = from_now(rt, HEAD_SECONDS)?;
-        Ok(Connection {
+    pub(crate) fn new(rt: &'a HostRuntime, socket: TcpStream, until: Instant) -> Connection<'a> {
+        Connection {
             rt,
             socket,
             stage: Stage::Head,
             until,
             moved: 0,
             came: 0,
-        })
+        }
     }
 
     /// How long the next read or write may take. No guarantee: of the clock the checker knows nothing.
@@ -148,7 +141,7 @@ impl<'a> Connection<'a> {
 
     /// The first line of the request whose head was read into `head`. No guarantee: it is for a person who reads
     /// the log.
-    pub(crate) fn first_line<'b>(&self, head: &'b [u8]) -> &'b [u8] {
+    pub fn first_line<'b>(&self, head: &'b [u8]) -> &'b [u8] {
         let first = head.get(..FIRST_BYTES.min(self.came)).unwrap_or(b"");
         let end = first
             .iter()
@@ -156,26 +149,25 @@ impl<'a> Connection<'a> {
         first.get(..end.unwrap_or(first.len())).unwrap_or(b"")
     }
 
-    /// Reads away what the client still sends, for a while, so that it sees the response and no reset; `piece` is
-    /// written over. No guarantee: of what a client sends the checker knows nothing.
-    fn drain(&mut self, piece: &mut [u8; HEAD_LIMIT]) -> io::Result<()> {
-        self.stage = Stage::Head;
-        self.put_off(DRAIN_SECONDS)?;
-        for _ in 0..DRAIN_PIECES {
-            if self.read_in_time(piece)? == 0 {
+    /// Ends the connection to a client that waits for nothing more. What is there already is read away; `piece` is
+    /// written over. No guarantee: as above.
+    pub fn close(mut self, piece: &mut [u8; HEAD_LIMIT]) -> io::Result<()> {
+        self.socket.shutdown(Shutdown::Write)?;
+        self.socket.set_nonblocking(true)?;
+        for _ in 0..PIECES_BEHIND {
+            if self.socket.read(piece)? == 0 {
                 return Ok(());
             }
         }
         Ok(())
     }
 
-    /// Ends the connection. Where all of the request was wanted, only what is there already is read away.
-    /// No guarantee: as `drain`.
-    pub(crate) fn close(self, was_wanted: bool, piece: &mut [u8; HEAD_LIMIT]) -> io::Result<()> {
-        let mut connection = self;
-        connection.socket.shutdown(Shutdown::Write)?;
-        connection.socket.set_nonblocking(was_wanted)?;
-        connection.drain(piece)
+    /// Sends no more: what the client still sends may be read away without waiting for it. No guarantee: as above.
+    pub(crate) fn into_half_closed(self) -> io::Result<TcpStream> {
+        let Connection { socket, .. } = self;
+        socket.shutdown(Shutdown::Write)?;
+        socket.set_nonblocking(true)?;
+        Ok(socket)
     }
 }
 
