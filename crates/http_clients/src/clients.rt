@@ -137,7 +137,10 @@ impl<'a> Clients<'a> {
     ) -> io::Result<Option<Client<'a>>> {
         let now = Instant::now(self.rt)?;
         let mut at = 0;
-        while at < self.waiting.len() {
+        for _ in 0..self.waiting.len() {
+            if at >= self.waiting.len() {
+                return Ok(None);
+            }
             match self.waiting[at].look(self.poll.registry(), now, head, fields) {
                 Sight::Waits => at += 1,
                 Sight::Done => drop(self.waiting.remove(at)),

@@ -106,20 +106,41 @@ impl Waiting {
         fields: &mut [HeaderSpan; FIELD_LIMIT],
     ) -> Sight {
         let is_late = self.until <= now;
-        let seen = match self.awaited {
-            Awaited::Head if is_late || (self.stirred && self.has_head(head, fields)) =>
-                Sight::Ready,
-            Awaited::End if is_late || (self.stirred && self.has_ended(head)) => Sight::Done,
-            _ => Sight::Waits,
-        };
-        if seen == Sight::Waits && !self.is_told(registry) {
-            return Sight::Ready;
+        let awaited = self.awaited;
+        match awaited {
+            Awaited::Head if is_late => Sight::Ready,
+            Awaited::End if is_late => Sight::Done,
+            _ if !self.stirred => Sight::Waits,
+            Awaited::Head => self.look_for_head(registry, head, fields),
+            Awaited::End => self.look_for_end(registry, head),
         }
-        seen
+    }
+
+    /// Whether its head is there. One of which the system cannot tell is served at once.
+    fn look_for_head(
+        &mut self,
+        registry: &Registry,
+        head: &mut [u8; HEAD_LIMIT],
+        fields: &mut [HeaderSpan; FIELD_LIMIT],
+    ) -> Sight {
+        if self.has_head(head, fields) || !self.is_told_of(registry) {
+            Sight::Ready
+        } else {
+            Sight::Waits
+        }
+    }
+
+    /// Whether it has ended. One of which the system cannot tell is let go at once.
+    fn look_for_end(&mut self, registry: &Registry, piece: &mut [u8; HEAD_LIMIT]) -> Sight {
+        if self.has_ended(piece) || !self.is_told_of(registry) {
+            Sight::Done
+        } else {
+            Sight::Waits
+        }
     }
 
     /// Has the system tell of its bytes, if it does not yet. What came before is told too.
-    fn is_told(&mut self, registry: &Registry) -> bool {
+    fn is_told_of(&mut self, registry: &Registry) -> bool {
         if !self.is_told {
             let (token, wanted) = (self.token, Interest::READABLE);
             self.is_told = registry.register(&mut self.socket, token, wanted).is_ok();
