@@ -146,7 +146,7 @@ impl<'a> Clients<'a> {
                 Sight::Done => drop(self.waiting.remove(at)),
                 Sight::Ready => {
                     let client = self.waiting.remove(at);
-                    return Ok(Some(self.begin(client)?));
+                    return Ok(Some(self.begin(client)));
                 }
             }
         }
@@ -154,7 +154,7 @@ impl<'a> Clients<'a> {
     }
 
     /// A client that has waited is served now.
-    fn begin(&mut self, client: Waiting) -> io::Result<Client<'a>> {
+    fn begin(&mut self, client: Waiting) -> Client<'a> {
         let mut client = client;
         client.forget(self.poll.registry());
         let Waiting {
@@ -164,8 +164,7 @@ impl<'a> Clients<'a> {
             ..
         } = client;
         let socket = net::TcpStream::from(socket);
-        socket.set_nonblocking(false)?;
-        Ok((Connection::new(self.rt, socket, until), address))
+        (Connection::new(self.rt, socket, until), address)
     }
 
     /// Waits until the system tells of a client, or the time of one is over.

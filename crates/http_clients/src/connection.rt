@@ -47,10 +47,12 @@ pub struct Connection<'a> {
     moved: usize,
     /// How many bytes were read before the head was there.
     came: usize,
+    /// Whether reads and writes wait for the client. Up to the first that has to, they are tried without.
+    waits: bool,
 }
 
 impl<'a> Connection<'a> {
-    /// The connection of a socket whose head has to come until then. No guarantee: of a socket the checker knows
+    /// The connection of a socket that does not wait, whose head has to come until then. No guarantee: of a socket the checker knows
     /// nothing.
     pub(crate) fn new(rt: &'a HostRuntime, socket: TcpStream, until: Instant) -> Connection<'a> {
         Connection {
@@ -60,6 +62,7 @@ impl<'a> Connection<'a> {
             until,
             moved: 0,
             came: 0,
+            waits: false,
         }
     }
 
@@ -95,48 +98,82 @@ impl<'a> Connection<'a> {
         Ok(())
     }
 
-    /// Reads once, while there is time. A wait of no time is an error of the system, as it is meant to be.
-    fn read_once(&mut self, buf: &mut [u8]) -> io::Result<usize>
+    /// Has reads and writes wait from now on. No guarantee: as `new`.
+    fn begin_to_wait(&mut self) -> io::Result<()> {
+        self.socket.set_nonblocking(false)?;
+        self.waits = true;
+        Ok(())
+    }
+
+    /// Reads what comes in time. A wait of no time is an error of the system, as it is meant to be.
+    fn wait_to_read(&mut self, buf: &mut [u8]) -> io::Result<usize>
         ensures { ReadsAtMost result buf.new }
     {
         let left = self.left()?;
         self.socket.set_read_timeout(Some(left))?;
-        let count = self.socket.read(buf)?;
-        self.count(count)?;
-        Ok(count)
+        self.socket.read(buf)
+    }
+
+    /// Reads once: what is there, or what comes in time.
+    fn read_once(&mut self, buf: &mut [u8]) -> io::Result<usize>
+        ensures { ReadsAtMost result buf.new }
+    {
+        if !self.waits {
+            match self.socket.read(buf) {
+                Err(error) if error.kind() == ErrorKind::WouldBlock => self.begin_to_wait()?,
+                read => return read,
+            }
+        }
+        self.wait_to_read(buf)
     }
 
     /// Reads while there is time. A halt of the server interrupts a wait, which is then taken up once more.
     fn read_in_time(&mut self, buf: &mut [u8]) -> io::Result<usize>
         ensures { ReadsAtMost result buf.new }
     {
-        match self.read_once(buf) {
-            Err(error) if error.kind() == ErrorKind::Interrupted => self.read_once(buf),
-            read => read,
-        }
-    }
-
-    /// Writes once, while there is time, a piece at most: the system may take more at once than the client does in
-    /// the time of a piece. What the command took is not the client's time.
-    fn write_once(&mut self, bytes: &[u8]) -> io::Result<usize>
-        ensures { WritesAtMost result bytes.now }
-    {
-        self.enter(Stage::Response)?;
-        let left = self.left()?;
-        self.socket.set_write_timeout(Some(left))?;
-        let count = self.socket.write(&bytes[..PIECE.min(bytes.len())])?;
+        let count = match self.read_once(buf) {
+            Err(error) if error.kind() == ErrorKind::Interrupted => self.read_once(buf)?,
+            read => read?,
+        };
         self.count(count)?;
         Ok(count)
     }
 
-    /// Writes while there is time, and once more after a halt, as `read_in_time`.
+    /// Writes what goes in time.
+    fn wait_to_write(&mut self, bytes: &[u8]) -> io::Result<usize>
+        ensures { WritesAtMost result bytes.now }
+    {
+        let left = self.left()?;
+        self.socket.set_write_timeout(Some(left))?;
+        self.socket.write(bytes)
+    }
+
+    /// Writes once, a piece at most: the system may take more at once than the client does in the time of a piece.
+    fn write_once(&mut self, bytes: &[u8]) -> io::Result<usize>
+        ensures { WritesAtMost result bytes.now }
+    {
+        let piece = &bytes[..PIECE.min(bytes.len())];
+        if !self.waits {
+            match self.socket.write(piece) {
+                Err(error) if error.kind() == ErrorKind::WouldBlock => self.begin_to_wait()?,
+                written => return written,
+            }
+        }
+        self.wait_to_write(piece)
+    }
+
+    /// Writes while there is time, and once more after a halt, as `read_in_time`. What the command took is not the
+    /// client's time.
     fn write_in_time(&mut self, bytes: &[u8]) -> io::Result<usize>
         ensures { WritesAtMost result bytes.now }
     {
-        match self.write_once(bytes) {
-            Err(error) if error.kind() == ErrorKind::Interrupted => self.write_once(bytes),
-            written => written,
-        }
+        self.enter(Stage::Response)?;
+        let count = match self.write_once(bytes) {
+            Err(error) if error.kind() == ErrorKind::Interrupted => self.write_once(bytes)?,
+            written => written?,
+        };
+        self.count(count)?;
+        Ok(count)
     }
 
     /// The first line of the request whose head was read into `head`. No guarantee: it is for a person who reads
@@ -149,24 +186,32 @@ impl<'a> Connection<'a> {
         first.get(..end.unwrap_or(first.len())).unwrap_or(b"")
     }
 
+    /// Its socket, which waits no more. No guarantee: as above.
+    fn into_socket(self) -> io::Result<TcpStream> {
+        let Connection { socket, waits, .. } = self;
+        if waits {
+            socket.set_nonblocking(true)?;
+        }
+        Ok(socket)
+    }
+
     /// Ends the connection to a client that waits for nothing more. What is there already is read away; `piece` is
     /// written over. No guarantee: as above.
-    pub fn close(mut self, piece: &mut [u8; HEAD_LIMIT]) -> io::Result<()> {
-        self.socket.shutdown(Shutdown::Write)?;
-        self.socket.set_nonblocking(true)?;
+    pub fn close(self, piece: &mut [u8; HEAD_LIMIT]) -> io::Result<()> {
+        let mut socket = self.into_socket()?;
         for _ in 0..PIECES_BEHIND {
-            if self.socket.read(piece)? == 0 {
+            if socket.read(piece)? == 0 {
                 return Ok(());
             }
         }
         Ok(())
     }
 
-    /// Sends no more: what the client still sends may be read away without waiting for it. No guarantee: as above.
+    /// Its socket, which sends no more: what the client still sends may be read away without waiting for it. No
+    /// guarantee: as above.
     pub(crate) fn into_half_closed(self) -> io::Result<TcpStream> {
-        let Connection { socket, .. } = self;
+        let socket = self.into_socket()?;
         socket.shutdown(Shutdown::Write)?;
-        socket.set_nonblocking(true)?;
         Ok(socket)
     }
 }
