@@ -46,6 +46,14 @@ fn is_slot_of(slots: &[PartSum], slot: usize, part: &NumberPart) -> bool
     slot < slots.len() && slots[slot].part == *part
 }
 
+/// The slot of a part, if it has one, by a search.
+#[inline(never)]
+fn search(places: &BTreeMap<NumberPart, usize>, part: &NumberPart) -> Option<usize>
+    ensures { result ≡ lookup (is_at (numbers_cmp part.now)) places.now.entries }
+{
+    places.get(part).copied()
+}
+
 /// The slot of a part, if it has one.
 fn find(
     places: &BTreeMap<NumberPart, usize>,
@@ -63,7 +71,7 @@ fn find(
     if is_slot_of(slots, next, part) {
         return Some(next);
     }
-    places.get(part).copied()
+    search(places, part)
 }
 
 /// Adds a cost to the sum in a slot.
@@ -77,6 +85,8 @@ fn raise(slots: &mut [PartSum], slot: usize, cost: u128)
 }
 
 /// Gives a part that has none a slot, with a cost as its sum, and returns its place. A refusal leaves all as it was.
+#[cold]
+#[inline(never)]
 fn put(
     places: &mut BTreeMap<NumberPart, usize>,
     slots: &mut Vec<PartSum>,
