@@ -1,13 +1,17 @@
 // Reads the store at a path beside others, who may write it meanwhile.
 ghost use Rattle.std.specs.Prelude.{◌≡◌, IfSome};
+ghost use Rattle.read_only_disks.specs.Untouched.{IsUntouched};
 
 use crate::patience::{Patience, TRIES};
-use crate::reading::{store_in_pages, work_in_pages};
+use crate::reading::{close, store_in_pages, work_in_pages};
 use crate::stores::{PAGES_TO_READ, is_no_file, options_for};
-use files_to_read::{IfStands, Unopened, open_to_read};
+use files_to_read::{IfStands, Standing, Unopened, open_to_read};
+use page_runs::PageRuns;
 use plain_tables::StoreError;
 use sessions::Work;
-use sqlite_disk::Unknown;
+use sqlite_disk::{Disk, Files as DiskFiles, Start, Unknown};
+use sqlite_pager::Options;
+use std::io::Write;
 use std::rt::HostRuntime;
 use std::{fs, io};
 
@@ -60,42 +64,95 @@ fn has_lasting_source(rt: &HostRuntime, work: &Work<'_>) -> bool {
     }
 }
 
-/// Does a work that only reads over the store at a path, once. No guarantee: of the files at a path the checker knows
-/// nothing; `work_in_pages` says what is answered over what was read, `Standing` when that is what one commit left.
-fn work_once<'a>(rt: &'a HostRuntime, path: &str, work: Work<'a>) -> Beside {
-    let (files, standing) = match open_to_read(rt, path, Unknown) {
-        Ok(opened) => opened,
-        Err(Unopened::Moved) => return Beside::Moved,
-        Err(Unopened::OutOfMemory) => return Beside::Memory,
-        Err(Unopened::Io(_)) | Err(Unopened::Unfit) => return Beside::Unfit,
-    };
-    let Ok(options) = options_for(rt, PAGES_TO_READ) else {
-        return Beside::Unfit;
-    };
-    let opened = store_in_pages::<_, Unknown>(rt.alloc(), files, options);
-    if !matches!(standing.has_same_log(), Ok(true)) {
-        return Beside::Moved;
+/// Why files are not read beside others.
+fn beside_of(unopened: Unopened) -> Beside {
+    match unopened {
+        Unopened::Moved => Beside::Moved,
+        Unopened::OutOfMemory => Beside::Memory,
+        Unopened::Io(_) | Unopened::Unfit => Beside::Unfit,
     }
-    match opened {
-        Ok(store) => {
-            let out = IfStands::new(io::writer(rt), rt, standing);
-            let (came_to, mut out, _store) = work_in_pages(rt, out, store, work);
-            if out.has_stood() {
-                Beside::Done(came_to)
-            } else {
-                Beside::Moved
-            }
-        }
-        Err(StoreError::Memory) => Beside::Memory,
-        Err(StoreError::Store) => match standing.stands(rt) {
+}
+
+/// Whether the log is still the one that was read. No guarantee: of files the checker knows nothing, here and below.
+fn has_same_log(standing: &Standing) -> bool {
+    matches!(standing.has_same_log(), Ok(true))
+}
+
+/// Why a store cannot be read beside others, where this was found.
+fn unread(rt: &HostRuntime, standing: &Standing, error: StoreError) -> Beside {
+    match error {
+        StoreError::Memory => Beside::Memory,
+        StoreError::Store if !has_same_log(standing) => Beside::Moved,
+        StoreError::Store => match standing.stands(rt) {
             Ok(true) => Beside::Unfit,
             _ => Beside::Moved,
         },
     }
 }
 
+/// What a work came to, whose answer was printed here if what it had read stood still.
+fn printed<'a, W: Write + Drop>(out: IfStands<'a, W>, came_to: io::Result<u8>) -> Beside {
+    let mut out = out;
+    if out.has_stood() {
+        Beside::Done(came_to)
+    } else {
+        Beside::Moved
+    }
+}
+
+/// Does a work that only reads over a store that was read beside others.
+fn work_over_pages<'a, D: Disk + Drop>(
+    rt: &'a HostRuntime,
+    store: PageRuns<D>,
+    standing: Standing,
+    work: Work<'a>,
+) -> Beside {
+    let out = IfStands::new(io::writer(rt), rt, standing);
+    let (came_to, out, store) = work_in_pages(rt, out, store, work);
+    close(store);
+    printed(out, came_to)
+}
+
+/// Does a work that only reads over the store in files that others may write. `work_in_pages` says what is answered over
+/// what was read, `Standing` when that is what one commit left.
+fn work_over_files<'a, D: Disk + Drop, S: Start>(
+    rt: &'a HostRuntime,
+    files: DiskFiles<D>,
+    options: Options,
+    standing: Standing,
+    work: Work<'a>,
+) -> Beside
+    requires log { IsUntouched D.Disk S.Start.log files.log }
+    requires db { IsUntouched D.Disk S.Start.db files.db }
+{
+    match store_in_pages::<D, S>(rt.alloc(), files, options) {
+        Ok(store) => {
+            if has_same_log(&standing) {
+                work_over_pages(rt, store, standing, work)
+            } else {
+                close(store);
+                Beside::Moved
+            }
+        }
+        Err(error) => unread(rt, &standing, error),
+    }
+}
+
+/// Does a work that only reads over the store at a path, once.
+fn work_once<'a>(rt: &'a HostRuntime, path: &str, work: Work<'a>) -> Beside {
+    let Ok(options) = options_for(rt, PAGES_TO_READ) else {
+        return Beside::Unfit;
+    };
+    match open_to_read(rt, path, Unknown) {
+        Ok((files, standing)) => {
+            work_over_files::<_, Unknown>(rt, files, options, standing, work)
+        }
+        Err(unopened) => beside_of(unopened),
+    }
+}
+
 /// Does a work over the store at a path beside others, if it only reads: no lock is taken, and nothing is made or
-/// changed. Where others write meanwhile, it begins anew, as long as patience lasts. No guarantee: as `work_once`.
+/// changed. Where others write meanwhile, it begins anew, as long as patience lasts.
 pub fn work_beside<'a>(
     rt: &'a HostRuntime,
     path: &str,

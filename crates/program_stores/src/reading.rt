@@ -54,6 +54,11 @@ pub fn store_in_pages<D: Disk + Drop, S: Start>(
     PageRuns::open(alloc, files, options, 0)
 }
 
+/// Closes a store. What was committed stands in its files, or in the log.
+pub fn close<D: Disk + Drop>(store: PageRuns<D>) {
+    drop(store);
+}
+
 /// The store at a path, to be read from its pages, as `store_in_pages`. No guarantee: of the files at a path the
 /// checker knows nothing.
 pub fn pages_at(
