@@ -98,7 +98,15 @@ pub fn serve_on<S: RunStore>(
         let Ok(client) = clients.next(&mut room.head, &mut room.fields) else {
             return false;
         };
-        serve_client(rt, router, warehouse, &mut room, &mut clients, client, is_logged);
+        serve_client(
+            rt,
+            router,
+            warehouse,
+            &mut room,
+            &mut clients,
+            client,
+            is_logged,
+        );
     }
     let _ended = clients.finish(&mut room.head, &mut room.fields);
     true
