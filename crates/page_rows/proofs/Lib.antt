@@ -7,3 +7,4 @@ mod Steps
 mod EntrySteps
 mod IndexCuts
 mod Turns
+mod Bounds
