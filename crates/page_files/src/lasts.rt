@@ -8,6 +8,7 @@ ghost use Rattle.page_files.specs.Lasts.{IsLastRowid};
 ghost use Rattle.page_files.specs.Trees.{ShowsTable, trees_of};
 
 use crate::files::PageFile;
+use page_rows::last_row;
 use sqlite_btree::{Batch, Scratch, table};
 use sqlite_disk::Disk;
 use sqlite_pages::{Error, Pages};
@@ -26,7 +27,7 @@ fn last_of<P: Pages>(
 {
     let mut batch = Batch::new(alloc);
     table::fill_back(store, scratch, root, i64::MAX, &mut batch)?;
-    if batch.next_back(store)? {
+    if last_row(store, alloc, &mut batch)? {
         Ok(Some(batch.rowid()))
     } else {
         Ok(None)

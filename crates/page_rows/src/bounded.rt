@@ -1,7 +1,7 @@
 // Reads that load no page too often.
 ghost use Rattle.std.specs.Prelude.{◌≡◌};
-ghost use Rattle.sqlite_pages.specs.Calls.{Continues, NamesDamage};
-ghost use Rattle.sqlite_btree.specs.Calls.Batch.{TakesFirst};
+ghost use Rattle.sqlite_pages.specs.Calls.{Continues};
+ghost use Rattle.sqlite_btree.specs.Calls.Batch.{TakesFirst, TakesLast};
 ghost use Rattle.sqlite_btree.specs.Calls.Table.{GetsRow};
 ghost use Rattle.sqlite_btree.specs.Calls.Index.{FillsRecords};
 
@@ -74,6 +74,24 @@ pub(crate) fn next_row<P: Pages>(
 {
     let mut bounded = Bounded { store, loads };
     batch.next(&mut bounded)
+}
+
+/// Takes the last row that a batch has left, as `Batch::next_back`.
+pub fn last_row<P: Pages>(
+    store: &mut P,
+    alloc: Global,
+    batch: &mut Batch,
+) -> Result<bool, Error>
+    ensures done { TakesLast P.Pages store.old store.new batch.old batch.new result }
+    ensures kept { Continues P.Pages store.old store.new }
+    ensures pages { P.Pages.pages store.new ≡ P.Pages.pages store.old }
+{
+    let mut loads = Loads::of_rows(alloc);
+    let mut bounded = Bounded {
+        store,
+        loads: &mut loads,
+    };
+    batch.next_back(&mut bounded)
 }
 
 /// Fills a batch with the first entries from a place on, as `index::fill`.

@@ -22,9 +22,9 @@ mod sinks;
 // The walk over the rows of a table.
 mod walks;
 
+pub use bounded::last_row;
 pub use entry_walks::walk_entries;
 pub use errors::WalkError;
-pub use loads::Loads;
 pub use records::read_row;
 pub use roots::root_named;
 pub use sinks::{EntrySink, RowSink};
