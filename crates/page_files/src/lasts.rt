@@ -8,7 +8,7 @@ ghost use Rattle.page_files.specs.Lasts.{IsLastRowid};
 ghost use Rattle.page_files.specs.Trees.{ShowsTable, trees_of};
 
 use crate::files::PageFile;
-use page_rows::last_row;
+use page_rows::{Loads, last_row};
 use sqlite_btree::{Batch, Scratch, table};
 use sqlite_disk::Disk;
 use sqlite_pages::{Error, Pages};
@@ -27,7 +27,8 @@ fn last_of<P: Pages>(
 {
     let mut batch = Batch::new(alloc);
     table::fill_back(store, scratch, root, i64::MAX, &mut batch)?;
-    if last_row(store, alloc, &mut batch)? {
+    let mut loads = Loads::of_rows(alloc);
+    if last_row(store, &mut loads, &mut batch)? {
         Ok(Some(batch.rowid()))
     } else {
         Ok(None)

@@ -7,4 +7,3 @@ mod Steps
 mod EntrySteps
 mod IndexCuts
 mod Turns
-mod Bounds

@@ -4,5 +4,6 @@ pub mod Roots
 pub mod Tables
 pub mod Walks
 pub mod Loads
+pub mod LoadLaws
 pub mod Places
 pub mod Batches

@@ -60,7 +60,8 @@ fn walk_batch<P: Pages, C: Probe, T: EntrySink>(
     ensures kept { Continues P.Pages store.old store.new }
     ensures pages { P.Pages.pages store.new ≡ P.Pages.pages store.old }
 {
-    fill_entries(store, alloc, root, probe, batch)?;
+    let mut search = Loads::of_search(alloc);
+    fill_entries(store, &mut search, alloc, root, probe, batch)?;
     if batch.is_empty() {
         return Ok(false);
     }

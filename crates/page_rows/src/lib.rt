@@ -3,13 +3,13 @@
 //! Whatever the file holds, each call ends, and where a table or an index stands in its pages, they are what it holds.
 #![tactic(auto)]
 
-// Reads that load no page too often.
+// Reads that load no more than a file holds.
 mod bounded;
 // The walk over the entries of an index.
 mod entry_walks;
 // Why a walk ends early.
 mod errors;
-// How often pages are loaded, and how often they may be.
+// How many pages may be loaded.
 mod loads;
 // Places among the entries of an index.
 mod probes;
@@ -25,6 +25,7 @@ mod walks;
 pub use bounded::last_row;
 pub use entry_walks::walk_entries;
 pub use errors::WalkError;
+pub use loads::Loads;
 pub use records::read_row;
 pub use roots::root_named;
 pub use sinks::{EntrySink, RowSink};

@@ -1,5 +1,5 @@
-// How often pages are loaded, and how often they may be.
-ghost use Rattle.std.specs.Prelude.{◌≡◌, ◌+◌, ◌≤◌, ◌<◌, max, vec_len, All, IfErr, OnOk};
+// How many pages may be loaded.
+ghost use Rattle.std.specs.Prelude.{◌≡◌, ◌+◌, ◌≤◌, ◌<◌, true, max, vec_len, All, IfErr, OnOk};
 
 use sqlite_pages::Error;
 use std::alloc::{AllocError, Global};
@@ -17,16 +17,18 @@ pub struct Loads {
     /// Loads that were let through before pages are counted, and how many may be.
     early: u32,
     grace: u32,
+    /// A load failed or was refused, or is asked for just now.
+    is_over: bool,
     ghost each: { All (λ count. count ≤ most) counts.items },
     ghost few: { early ≤ grace },
 }
 
 impl Loads {
-    ghost use Rattle.page_rows.specs.Loads.{made, may_be_made, KeepsBounds};
+    ghost use Rattle.page_rows.specs.Loads.{asked, counted, may_be_counted, Asks};
 
     /// For the rows that one walk takes. Each of their overflow pages belongs to one row, and is read once.
     pub fn of_rows(alloc: Global) -> Loads
-        ensures none { made result ≡ 0 }
+        ensures none { asked result ≡ 0 }
         ensures once { (result.grace ≡ 0) × (result.most ≡ 1) }
     {
         Loads {
@@ -34,13 +36,14 @@ impl Loads {
             most: 1,
             early: 0,
             grace: 0,
+            is_over: false,
         }
     }
 
     /// For one search in a tree. It looks at a page, copies it where a payload of it goes on in overflow
     /// pages, and then takes its cells.
     pub fn of_search(alloc: Global) -> Loads
-        ensures none { made result ≡ 0 }
+        ensures none { asked result ≡ 0 }
         ensures thrice { (result.grace ≡ 64) × (result.most ≡ 3) }
     {
         Loads {
@@ -48,15 +51,17 @@ impl Loads {
             most: 3,
             early: 0,
             grace: GRACE,
+            is_over: false,
         }
     }
 
     /// Has a count for this page, as for each before it.
     fn reach(&mut self, page: u32) -> Result<(), AllocError>
         ensures there { OnOk result (page < vec_len self.new.counts) }
-        ensures made { made self.new ≡ made self.old }
+        ensures counted { counted self.new ≡ counted self.old }
         ensures longest { vec_len self.new.counts ≤ max (vec_len self.old.counts) (page + 1) }
-        ensures bounds { KeepsBounds self.old self.new }
+        ensures bounds { (self.new.most ≡ self.old.most) × (self.new.grace ≡ self.old.grace) }
+        ensures over { self.new.is_over ≡ self.old.is_over }
     {
         let at = page as usize;
         if at < self.counts.len() {
@@ -67,10 +72,11 @@ impl Loads {
 
     fn raise(&mut self, page: u32) -> Result<(), Error>
         requires { page < vec_len self.old.counts }
-        ensures counted { OnOk result (made self.new ≡ made self.old + 1) }
+        ensures counted { OnOk result (counted self.new ≡ counted self.old + 1) }
+        ensures refused { IfErr result (λ e. (e ≡ Error.OutOfMemory) × (self.new ≡ self.old)) }
         ensures longest { vec_len self.new.counts ≡ vec_len self.old.counts }
-        ensures bounds { KeepsBounds self.old self.new }
-        ensures cause { IfErr result (λ e. e ≡ Error.OutOfMemory) }
+        ensures bounds { (self.new.most ≡ self.old.most) × (self.new.grace ≡ self.old.grace) }
+        ensures over { self.new.is_over ≡ self.old.is_over }
     {
         let at = page as usize;
         let count = self.counts[at];
@@ -81,20 +87,37 @@ impl Loads {
         Ok(())
     }
 
-    /// Counts a load of a page that is there. Errors: `OutOfMemory`, also for a load too many, since that
-    /// error needs no cause.
+    /// Begins a load. Errors: `OutOfMemory` where one failed or was refused.
+    pub(crate) fn begin(&mut self) -> Result<(), Error>
+        ensures begun { OnOk result ((self.new.is_over ≡ true) × (asked self.new ≡ asked self.old + 1) × (counted self.new ≡ counted self.old)) }
+        ensures refused { IfErr result (λ e. (e ≡ Error.OutOfMemory) × (self.new ≡ self.old)) }
+        ensures longest { vec_len self.new.counts ≡ vec_len self.old.counts }
+        ensures bounds { (self.new.most ≡ self.old.most) × (self.new.grace ≡ self.old.grace) }
+    {
+        if self.is_over {
+            return Err(Error::OutOfMemory);
+        }
+        self.is_over = true;
+        Ok(())
+    }
+
+    /// Counts the load that was begun, of a page that is there. Errors: `OutOfMemory`, also for one too many,
+    /// since that error needs no cause.
     pub(crate) fn count(&mut self, page: u32) -> Result<(), Error>
-        ensures counted { OnOk result (made self.new ≡ made self.old + 1) }
-        ensures bounded { made self.new ≤ may_be_made self.new }
+        requires { self.old.is_over ≡ true }
+        ensures counted { OnOk result (counted self.new ≡ counted self.old + 1) }
+        ensures asked { asked self.new ≡ asked self.old }
         ensures longest { vec_len self.new.counts ≤ max (vec_len self.old.counts) (page + 1) }
-        ensures bounds { KeepsBounds self.old self.new }
+        ensures bounds { (self.new.most ≡ self.old.most) × (self.new.grace ≡ self.old.grace) }
         ensures cause { IfErr result (λ e. e ≡ Error.OutOfMemory) }
     {
         if self.early < self.grace {
             self.early += 1;
-            return Ok(());
+        } else {
+            self.reach(page)?;
+            self.raise(page)?;
         }
-        self.reach(page)?;
-        self.raise(page)
+        self.is_over = false;
+        Ok(())
     }
 }

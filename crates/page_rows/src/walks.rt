@@ -98,5 +98,6 @@ pub fn find_row<P: Pages>(
     ensures kept { Continues P.Pages store.old store.new }
     ensures pages { P.Pages.pages store.new ≡ P.Pages.pages store.old }
 {
-    get_row(store, alloc, root, rowid, payload)
+    let mut loads = Loads::of_search(alloc);
+    get_row(store, &mut loads, alloc, root, rowid, payload)
 }
