@@ -74,7 +74,7 @@ impl<P: Pages> Pages for Bounded<'_, P> {
 }
 
 /// Takes the first row that a batch has left, as `Batch::next`.
-pub(crate) fn next_row<P: Pages>(
+pub fn next_row<P: Pages>(
     store: &mut P,
     loads: &mut Loads,
     batch: &mut Batch,
@@ -104,7 +104,7 @@ pub fn last_row<P: Pages>(
 }
 
 /// Fills a batch with the first entries from a place on, as `index::fill`.
-pub(crate) fn fill_entries<P: Pages, C: Probe>(
+pub fn fill_entries<P: Pages, C: Probe>(
     store: &mut P,
     loads: &mut Loads,
     alloc: Global,
@@ -123,7 +123,7 @@ pub(crate) fn fill_entries<P: Pages, C: Probe>(
 }
 
 /// Reads the row with a rowid, as `table::get`.
-pub(crate) fn get_row<P: Pages>(
+pub fn get_row<P: Pages>(
     store: &mut P,
     loads: &mut Loads,
     alloc: Global,

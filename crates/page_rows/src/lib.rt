@@ -1,6 +1,7 @@
 //! The rows of a table, and the entries of an index, straight from the pages of a database file, which nobody
 //! has checked: no SQL, and no pass over the file before. They are handed on one at a time to what takes them.
-//! Whatever the file holds, each call ends, and where a table or an index stands in its pages, they are what it holds.
+//! Whatever the file holds, each call ends, and follows no overflow pages that lead back to themselves; where a table or
+//! an index stands in its pages, they are what it holds.
 #![tactic(auto)]
 
 // Reads that load no more than a file holds.
@@ -22,7 +23,7 @@ mod sinks;
 // The walk over the rows of a table.
 mod walks;
 
-pub use bounded::last_row;
+pub use bounded::{fill_entries, last_row, next_row};
 pub use entry_walks::walk_entries;
 pub use errors::WalkError;
 pub use loads::Loads;

@@ -55,6 +55,31 @@ impl Loads {
         }
     }
 
+    /// For changes of a tree. Between two writes a change looks at a page, copies it, looks for the overflow
+    /// pages of a cell of it, and copies it anew.
+    pub fn of_changes(alloc: Global) -> Loads
+        ensures none { asked result ≡ 0 }
+        ensures often { (result.grace ≡ 64) × (result.most ≡ 8) }
+    {
+        Loads {
+            counts: Vec::new(alloc),
+            most: 8,
+            early: 0,
+            grace: GRACE,
+            is_over: false,
+        }
+    }
+
+    /// Begins anew, as where a page was written.
+    pub fn restart(&mut self)
+        ensures none { asked self.new ≡ 0 }
+        ensures bounds { (self.new.most ≡ self.old.most) × (self.new.grace ≡ self.old.grace) }
+    {
+        self.counts.clear();
+        self.early = 0;
+        self.is_over = false;
+    }
+
     /// Has a count for this page, as for each before it.
     fn reach(&mut self, page: u32) -> Result<(), AllocError>
         ensures there { OnOk result (page < vec_len self.new.counts) }
@@ -88,7 +113,7 @@ impl Loads {
     }
 
     /// Begins a load. Errors: `OutOfMemory` where one failed or was refused.
-    pub(crate) fn begin(&mut self) -> Result<(), Error>
+    pub fn begin(&mut self) -> Result<(), Error>
         ensures begun { OnOk result ((self.new.is_over ≡ true) × (asked self.new ≡ asked self.old + 1) × (counted self.new ≡ counted self.old)) }
         ensures refused { IfErr result (λ e. (e ≡ Error.OutOfMemory) × (self.new ≡ self.old)) }
         ensures longest { vec_len self.new.counts ≡ vec_len self.old.counts }
@@ -103,7 +128,7 @@ impl Loads {
 
     /// Counts the load that was begun, of a page that is there. Errors: `OutOfMemory`, also for one too many,
     /// since that error needs no cause.
-    pub(crate) fn count(&mut self, page: u32) -> Result<(), Error>
+    pub fn count(&mut self, page: u32) -> Result<(), Error>
         requires { self.old.is_over ≡ true }
         ensures counted { OnOk result (counted self.new ≡ counted self.old + 1) }
         ensures asked { asked self.new ≡ asked self.old }
