@@ -7,11 +7,11 @@ ghost use Rattle.page_edits.specs.Places.{PlacesFirst, PlacesRows, rows_given, e
 ghost use Rattle.sqlite_record.specs.Record.{decode};
 ghost use Rattle.page_edits.specs.Trees.{PlacesRow};
 
+use crate::bounded::{Scratch, insert_record};
 use crate::edits::put;
 use crate::fills::fill;
 use crate::probes::AtRecord;
 use crate::rows::{IndexEntries, TableRows};
-use sqlite_btree::{Scratch, index};
 use sqlite_pages::{Error, Pages};
 use sqlite_trees::store::Shape;
 use sqlite_value::keys::Order;
@@ -113,7 +113,7 @@ fn insert_one<P: Pages>(
     ensures done { PlacesRow P.Pages store.old store.new (Shape.Index order) root (decode fields.now) (insert_entry order) result }
     ensures kept { Continues P.Pages store.old store.new }
 {
-    index::insert(store, scratch, root, &AtRecord(order, fields), fields)?;
+    insert_record(store, scratch, root, &AtRecord(order, fields), fields)?;
     Ok(())
 }
 

@@ -7,8 +7,9 @@ ghost use Rattle.sqlite_record.specs.Strict.{IsRecord};
 ghost use Rattle.sqlite_store.specs.Db.{table_row};
 ghost use Rattle.page_edits.specs.Trees.{EditsTree, PlacesRow};
 
+use crate::bounded::{Scratch, insert_record, remove_record};
 use crate::probes::AtRow;
-use sqlite_btree::{Scratch, index, table};
+use sqlite_btree::table;
 use sqlite_pages::{Error, Pages};
 use sqlite_trees::store::Shape;
 use sqlite_value::keys::Order;
@@ -31,7 +32,7 @@ pub fn put<P: Pages>(
     ensures done { PlacesRow P.Pages store.old store.new Shape.Table root (table_row (rowid, fields.now)) put_row result }
     ensures kept { Continues P.Pages store.old store.new }
 {
-    table::insert(store, scratch, root, rowid, fields)?;
+    table::insert(store, &mut scratch.buffers, root, rowid, fields)?;
     Ok(())
 }
 
@@ -48,7 +49,7 @@ pub fn delete<P: Pages>(
     ensures done { EditsTree P.Pages store.old store.new Shape.Table root (without_rowid rowid) result }
     ensures kept { Continues P.Pages store.old store.new }
 {
-    table::remove(store, scratch, root, rowid)?;
+    table::remove(store, &mut scratch.buffers, root, rowid)?;
     Ok(())
 }
 
@@ -71,7 +72,7 @@ pub fn insert<P: Pages>(
     ensures done { PlacesRow P.Pages store.old store.new (Shape.Index order) root entry.now (insert_entry order) result }
     ensures kept { Continues P.Pages store.old store.new }
 {
-    index::insert(store, scratch, root, &AtRow(order, entry), fields)?;
+    insert_record(store, scratch, root, &AtRow(order, entry), fields)?;
     Ok(())
 }
 
@@ -90,6 +91,6 @@ pub fn remove<P: Pages>(
     ensures done { EditsTree P.Pages store.old store.new (Shape.Index order) root (remove_entry order entry.now) result }
     ensures kept { Continues P.Pages store.old store.new }
 {
-    index::remove(store, scratch, root, &AtRow(order, entry))?;
+    remove_record(store, scratch, root, &AtRow(order, entry))?;
     Ok(())
 }

@@ -5,6 +5,8 @@
 
 // Many rows at a time (specs/Places.antt).
 mod appends;
+// Changes of an index that load no more than a file holds.
+mod bounded;
 // Rows put behind those of a leaf (specs/Leaves.antt).
 mod cells;
 // One row or entry at a time.
@@ -29,5 +31,6 @@ mod stretches;
 mod trims;
 
 pub use appends::{append, append_entries};
+pub use bounded::Scratch;
 pub use edits::{delete, insert, put, remove};
 pub use removals::{delete_all, remove_under};

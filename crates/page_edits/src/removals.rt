@@ -5,11 +5,13 @@ ghost use Rattle.sqlite_btree.specs.Batch.{taken};
 ghost use Rattle.page_edits.specs.Removals.{has_prefix, without, without_rowids, LosesSome, LosesUntil, Thins, ThinsBy};
 ghost use Rattle.page_edits.specs.Sought.{FindsUnder};
 
+use crate::bounded::{Scratch, remove_record};
 use crate::edits::delete;
 use crate::probes::{AtRecord, BeforePrefix};
 use crate::stretches::{UnderPrefix, WithRowids};
 use crate::trims::trim;
-use sqlite_btree::{Batch, Scratch, index};
+use page_rows::{Loads, fill_entries, next_row};
+use sqlite_btree::Batch;
 use sqlite_pages::{Error, Pages};
 use sqlite_record::compare;
 use sqlite_trees::store::Shape;
@@ -77,7 +79,7 @@ pub fn delete_all<P: Pages>(
 /// Reads the first entry that begins so into the batch. Says whether there is one.
 fn find_under<P: Pages>(
     store: &mut P,
-    scratch: &mut Scratch,
+    alloc: Global,
     root: u32,
     order: Order,
     prefix: &Row,
@@ -87,8 +89,11 @@ fn find_under<P: Pages>(
     ensures kept { Continues P.Pages store.old store.new }
     ensures pages { P.Pages.pages store.new ≡ P.Pages.pages store.old }
 {
-    index::fill(store, scratch, root, &BeforePrefix(order, prefix), batch)?;
-    if !batch.next(store)? {
+    let mut loads = Loads::of_search(alloc);
+    let before = BeforePrefix(order, prefix);
+    fill_entries(store, &mut loads, alloc, root, &before, batch)?;
+    let mut loads = Loads::of_rows(alloc);
+    if !next_row(store, &mut loads, batch)? {
         return Ok(false);
     }
     Ok(compare::with_key(order, batch.payload(), prefix).is_eq())
@@ -97,6 +102,7 @@ fn find_under<P: Pages>(
 /// Takes the first entry that begins so out. The answer is no where there was none.
 fn remove_first<P: Pages>(
     store: &mut P,
+    alloc: Global,
     scratch: &mut Scratch,
     root: u32,
     order: Order,
@@ -106,11 +112,11 @@ fn remove_first<P: Pages>(
     ensures done { ThinsBy P.Pages store.old store.new (Shape.Index order) root (LosesUntil (has_prefix order prefix.now)) result }
     ensures kept { Continues P.Pages store.old store.new }
 {
-    if !find_under(store, scratch, root, order, prefix, batch)? {
+    if !find_under(store, alloc, root, order, prefix, batch)? {
         return Ok(false);
     }
     // On pages that hold no index an entry may be found where it is not removed, and then the loop would not end.
-    if !index::remove(store, scratch, root, &AtRecord(order, batch.payload()))? {
+    if !remove_record(store, scratch, root, &AtRecord(order, batch.payload()))? {
         return Err(Error::Corrupt);
     }
     Ok(true)
@@ -145,7 +151,7 @@ fn remove_some<P: Pages>(
     ensures kept { Continues P.Pages store.old store.new }
 {
     trim_under(store, alloc, root, order, prefix)?;
-    remove_first(store, scratch, root, order, prefix, batch)
+    remove_first(store, alloc, scratch, root, order, prefix, batch)
 }
 
 /// Takes each entry that begins with the columns of this prefix out of the index under this root.

@@ -15,8 +15,8 @@ ghost use Rattle.page_rows.specs.Rows.{from_rowid};
 ghost use Rattle.page_rows.specs.Tables.{IsIndexNamed, IsNamed, root_of_tree};
 ghost use Rattle.page_rows.specs.Walks.{Walks};
 
+use page_edits::Scratch;
 use page_rows::{RowSink, WalkError};
-use sqlite_btree::Scratch;
 use sqlite_disk::{Disk, Files};
 use sqlite_pages::Error;
 use sqlite_pool::Pool;

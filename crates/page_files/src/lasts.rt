@@ -8,6 +8,7 @@ ghost use Rattle.page_files.specs.Lasts.{IsLastRowid};
 ghost use Rattle.page_files.specs.Trees.{ShowsTable, trees_of};
 
 use crate::files::PageFile;
+use page_rows::{Loads, last_row};
 use sqlite_btree::{Batch, Scratch, table};
 use sqlite_disk::Disk;
 use sqlite_pages::{Error, Pages};
@@ -15,7 +16,6 @@ use std::alloc::Global;
 
 fn last_of<P: Pages>(
     store: &mut P,
-    scratch: &mut Scratch,
     alloc: Global,
     root: u32,
 ) -> Result<Option<i64>, Error>
@@ -24,9 +24,11 @@ fn last_of<P: Pages>(
     ensures kept { Continues P.Pages store.old store.new }
     ensures pages { P.Pages.pages store.new ≡ P.Pages.pages store.old }
 {
+    let mut scratch = Scratch::new(alloc);
     let mut batch = Batch::new(alloc);
-    table::fill_back(store, scratch, root, i64::MAX, &mut batch)?;
-    if batch.next_back(store)? {
+    table::fill_back(store, &mut scratch, root, i64::MAX, &mut batch)?;
+    let mut loads = Loads::of_rows(alloc);
+    if last_row(store, &mut loads, &mut batch)? {
         Ok(Some(batch.rowid()))
     } else {
         Ok(None)
@@ -43,7 +45,7 @@ impl<D: Disk> PageFile<D> {
         ensures reads { OnlyReads self.old self.new }
         ensures usable { OnOk result (IsUsable self.new) }
     {
-        let last = last_of(&mut self.pool, &mut self.scratch, alloc, root)?;
+        let last = last_of(&mut self.pool, alloc, root)?;
         self.if_usable()?;
         Ok(last)
     }

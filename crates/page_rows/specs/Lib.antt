@@ -3,5 +3,7 @@ pub mod Indexes
 pub mod Roots
 pub mod Tables
 pub mod Walks
+pub mod Loads
+pub mod LoadLaws
 pub mod Places
 pub mod Batches

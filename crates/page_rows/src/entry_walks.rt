@@ -8,10 +8,12 @@ ghost use Rattle.page_rows.specs.Batches.{HandsOn, WalksBatch};
 ghost use Rattle.page_rows.specs.Indexes.{HasIndex, entries_of, from_entry};
 ghost use Rattle.page_rows.specs.Walks.{Walks};
 
+use crate::bounded::{fill_entries, next_row};
 use crate::errors::WalkError;
+use crate::loads::Loads;
 use crate::probes::{AtRow, BehindRecord};
 use crate::sinks::EntrySink;
-use sqlite_btree::{Batch, Probe, Scratch, index};
+use sqlite_btree::{Batch, Probe};
 use sqlite_pages::{Error, Pages};
 use sqlite_record::compare;
 use sqlite_value::keys::Order;
@@ -22,6 +24,7 @@ use std::cmp::Ordering;
 /// Hands on the entries that the batch has left. Says whether more are wanted.
 fn hand_on<P: Pages, T: EntrySink>(
     store: &mut P,
+    loads: &mut Loads,
     batch: &mut Batch,
     sink: &mut T,
 ) -> Result<bool, WalkError<T::Refusal>>
@@ -30,7 +33,7 @@ fn hand_on<P: Pages, T: EntrySink>(
     ensures pages { P.Pages.pages store.new ≡ P.Pages.pages store.old }
 {
     'entries: for _ in 0..u64::MAX {
-        if !batch.next(store)? {
+        if !next_row(store, loads, batch)? {
             return Ok(true);
         }
         match sink.take(batch.payload()) {
@@ -46,7 +49,8 @@ fn hand_on<P: Pages, T: EntrySink>(
 /// are wanted.
 fn walk_batch<P: Pages, C: Probe, T: EntrySink>(
     store: &mut P,
-    scratch: &mut Scratch,
+    loads: &mut Loads,
+    alloc: Global,
     root: u32,
     probe: &C,
     batch: &mut Batch,
@@ -56,11 +60,12 @@ fn walk_batch<P: Pages, C: Probe, T: EntrySink>(
     ensures kept { Continues P.Pages store.old store.new }
     ensures pages { P.Pages.pages store.new ≡ P.Pages.pages store.old }
 {
-    index::fill(store, scratch, root, probe, batch)?;
+    let mut search = Loads::of_search(alloc);
+    fill_entries(store, &mut search, alloc, root, probe, batch)?;
     if batch.is_empty() {
         return Ok(false);
     }
-    hand_on(store, batch, sink)
+    hand_on(store, loads, batch, sink)
 }
 
 /// Whether a record comes after another in the order.
@@ -98,11 +103,12 @@ pub fn walk_entries<P: Pages, T: EntrySink>(
     ensures kept { Continues P.Pages store.old store.new }
     ensures pages { P.Pages.pages store.new ≡ P.Pages.pages store.old }
 {
-    let mut scratch = Scratch::new(alloc);
     let mut batch = Batch::new(alloc);
+    let mut loads = Loads::of_rows(alloc);
     if !walk_batch(
         store,
-        &mut scratch,
+        &mut loads,
+        alloc,
         root,
         &AtRow(order, from),
         &mut batch,
@@ -114,7 +120,7 @@ pub fn walk_entries<P: Pages, T: EntrySink>(
     keep(&mut last, batch.payload())?;
     'batches: for _ in 0..u64::MAX {
         let behind = BehindRecord(order, last.as_slice());
-        if !walk_batch(store, &mut scratch, root, &behind, &mut batch, sink)? {
+        if !walk_batch(store, &mut loads, alloc, root, &behind, &mut batch, sink)? {
             return Ok(());
         }
         // On pages that hold no index the entries may go back, and then the walk would not end.

@@ -9,7 +9,9 @@ ghost use Rattle.page_rows.specs.Rows.{HasTable, rows_of, from_rowid};
 ghost use Rattle.page_rows.specs.Places.{IsAt, HasCome};
 ghost use Rattle.page_rows.specs.Walks.{Walks};
 
+use crate::bounded::{get_row, next_row};
 use crate::errors::WalkError;
+use crate::loads::Loads;
 use crate::sinks::RowSink;
 use sqlite_btree::{Batch, Scratch, table};
 use sqlite_pages::{Error, Pages};
@@ -19,6 +21,7 @@ use std::alloc::Global;
 /// Says whether there is one.
 fn advance<P: Pages>(
     store: &mut P,
+    loads: &mut Loads,
     scratch: &mut Scratch,
     root: u32,
     from: i64,
@@ -30,11 +33,11 @@ fn advance<P: Pages>(
     ensures kept { Continues P.Pages store.old store.new }
     ensures pages { P.Pages.pages store.new ≡ P.Pages.pages store.old }
 {
-    if batch.next(store)? {
+    if next_row(store, loads, batch)? {
         return Ok(true);
     }
     table::fill(store, scratch, root, from, batch)?;
-    batch.next(store)
+    next_row(store, loads, batch)
 }
 
 /// Hands the rows of the table under a root page on, from a rowid on, by rising rowid, until no more
@@ -55,9 +58,10 @@ pub fn walk<P: Pages, T: RowSink>(
 {
     let mut scratch = Scratch::new(alloc);
     let mut batch = Batch::new(alloc);
+    let mut loads = Loads::of_rows(alloc);
     let mut next = from;
     'rows: for _ in 0..u64::MAX {
-        if !advance(store, &mut scratch, root, next, &mut batch)? {
+        if !advance(store, &mut loads, &mut scratch, root, next, &mut batch)? {
             return Ok(());
         }
         let rowid = batch.rowid();
@@ -94,6 +98,6 @@ pub fn find_row<P: Pages>(
     ensures kept { Continues P.Pages store.old store.new }
     ensures pages { P.Pages.pages store.new ≡ P.Pages.pages store.old }
 {
-    let mut scratch = Scratch::new(alloc);
-    table::get(store, &mut scratch, root, rowid, payload)
+    let mut loads = Loads::of_search(alloc);
+    get_row(store, &mut loads, alloc, root, rowid, payload)
 }

@@ -30,16 +30,16 @@ returns-then-not-branch-clause-done g c = λ clean schema t db names.
     subst (λ after. LosesUntil picks (g.P.Pages.size c.args.store.now) schema (g.P.Pages.pages c.args.store.now) after t false) (sym c.find_under.ensures.pages)
     (none_left c.args.order c.args.prefix.now db names (subst (IsUnder c.args.order c.args.prefix.now laid.1.0 _) c.if-not-branch.true none))
 
-pub returns-in_err-remove-clause-done : goal.returns-in_err-remove-clause-done
-returns-in_err-remove-clause-done g c = λ clean schema t db names.
+pub returns-in_err-remove_record-clause-done : goal.returns-in_err-remove_record-clause-done
+returns-in_err-remove_record-clause-done g c = λ clean schema t db names.
     let k = c.args.order in
     let laid = named_laid db names in
     let mark = decode c.payload.result.now in
     let now = subst (IsLaidIn (db.layouts (suc t))) (sym c.find_under.ensures.pages) laid.0 in
     let index : IsIndex (record_order k) (g.P.Pages.size c.find_under.new.store) (db.layouts (suc t)) c.args.root laid.1.0 =
     subst (λ n. IsIndex (record_order k) n (db.layouts (suc t)) c.args.root laid.1.0) (sym c.find_under.ensures.kept.same_size) laid.1.1 in
-    let p = err_from_is_err_and c.from_residual-in_err-remove.result c.from_residual-in_err-remove.ensures.1 in
-    let failed = c.in_err-remove.ensures.done clean (record_order k) (db.layouts (suc t)) laid.1.0 (strict k) (probe_at k mark) now index in
+    let p = err_from_is_err_and c.from_residual-in_err-remove_record.result c.from_residual-in_err-remove_record.ensures.1 in
+    let failed = c.in_err-remove_record.ensures.done clean (record_order k) (db.layouts (suc t)) laid.1.0 (strict k) (probe_at k mark) now index in
     rw (p.1, p.2) (later_fault (g.P.Pages.faults c.args.store.now) (g.P.Pages.faults c.find_under.new.store) _ _ (WasDeep g.P.Pages c.args.store.now c.args.root) _ c.find_under.ensures.kept.more_faults
     (λ limit. record {
       mid = c.find_under.new.store;
@@ -51,12 +51,12 @@ pub returns-then-not-branch-2-clause-done : goal.returns-then-not-branch-2-claus
 returns-then-not-branch-2-clause-done g c = λ clean schema t db names.
     let k = c.args.order in
     let laid = named_laid db names in
-    let found = c.in_ok-find_under.ensures.done (omega (arith, clean, c.remove.ensures.kept.clean)) _ laid.1.0 laid.0 laid.1.1 in
+    let found = c.in_ok-find_under.ensures.done (omega (arith, clean, c.remove_record.ensures.kept.clean)) _ laid.1.0 laid.0 laid.1.1 in
     let under = subst (IsUnder k c.args.prefix.now laid.1.0 _) c.if-not-branch.false found in
     let now = subst (IsLaidIn (db.layouts (suc t))) (sym c.find_under.ensures.pages) laid.0 in
     let index : IsIndex (record_order k) (g.P.Pages.size c.find_under.new.store) (db.layouts (suc t)) c.args.root laid.1.0 =
     subst (λ n. IsIndex (record_order k) n (db.layouts (suc t)) c.args.root laid.1.0) (sym c.find_under.ensures.kept.same_size) laid.1.1 in
-    let done = c.in_ok-remove.ensures.done clean (record_order k) (db.layouts (suc t)) laid.1.0 (strict k) (probe_at k (decode c.payload.result.now)) now index in
+    let done = c.in_ok-remove_record.ensures.done clean (record_order k) (db.layouts (suc t)) laid.1.0 (strict k) (probe_at k (decode c.payload.result.now)) now index in
     let there = there_hit k _ laid.1.0 (ascends_records laid.1.1) (subst (λ b. Rattle.sqlite_btree.specs.Cut.IsIn b laid.1.0) (sym c.payload.ensures) under.0) in
     let no = sym c.if-not-branch-2.true ∙ done.0 ∙ there in cc
 
@@ -65,13 +65,13 @@ returns-clause-done g c = λ clean schema t db names.
     let k = c.args.order in
     let laid = named_laid db names in
     let size = g.P.Pages.size c.args.store.now in
-    let found = c.in_ok-find_under.ensures.done (omega (arith, clean, c.remove.ensures.kept.clean)) _ laid.1.0 laid.0 laid.1.1 in
+    let found = c.in_ok-find_under.ensures.done (omega (arith, clean, c.remove_record.ensures.kept.clean)) _ laid.1.0 laid.0 laid.1.1 in
     let under = subst (IsUnder k c.args.prefix.now laid.1.0 _) c.if-not-branch.false found in
     let now = subst (IsLaidIn (db.layouts (suc t))) (sym c.find_under.ensures.pages) laid.0 in
     let index : IsIndex (record_order k) (g.P.Pages.size c.find_under.new.store) (db.layouts (suc t)) c.args.root laid.1.0 =
     subst (λ n. IsIndex (record_order k) n (db.layouts (suc t)) c.args.root laid.1.0) (sym c.find_under.ensures.kept.same_size) laid.1.1 in
     let mark = c.payload.result.now in
-    let done = c.in_ok-remove.ensures.done clean (record_order k) (db.layouts (suc t)) laid.1.0 (strict k) (probe_at k (decode mark)) now index in
+    let done = c.in_ok-remove_record.ensures.done clean (record_order k) (db.layouts (suc t)) laid.1.0 (strict k) (probe_at k (decode mark)) now index in
     first_out k c.args.prefix.now db names mark (subst (λ b. has_prefix k c.args.prefix.now (decode b) ≡ true) (sym c.payload.ensures) under.1)
-    (subst₂ (λ n (p : PageMap). IsWritten (db.layouts (suc t)) p (g.P.Pages.pages c.remove.new.store) (λ new. IsIndex (record_order k) n new c.args.root (drop_at_cut (λ x. entry_cmp k (decode x) (decode mark)) laid.1.0)))
+    (subst₂ (λ n (p : PageMap). IsWritten (db.layouts (suc t)) p (g.P.Pages.pages c.remove_record.new.store) (λ new. IsIndex (record_order k) n new c.args.root (drop_at_cut (λ x. entry_cmp k (decode x) (decode mark)) laid.1.0)))
     c.find_under.ensures.kept.same_size c.find_under.ensures.pages done.1)

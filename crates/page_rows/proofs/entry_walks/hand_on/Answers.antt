@@ -6,38 +6,38 @@ use Rattle.sqlite_store.proofs.Causes.{since, Continues-trans}
 use Rattle.page_rows.proofs.EntrySteps.{since_first, handed_all, handed_last, handed_none, amid_next}
 use Rattle.page_rows.proofs.entry_walks.hand_on.Goals as goal
 
-pub returns-in_err-next-clause-done : goal.returns-in_err-next-clause-done
-returns-in_err-next-clause-done g c clean layout laid valid = λ start rest all is.
+pub returns-in_err-next_row-clause-done : goal.returns-in_err-next_row-clause-done
+returns-in_err-next_row-clause-done g c clean layout laid valid = λ start rest all is.
     let size = g.P.Pages.size c.args.store.now in
     let pages = g.P.Pages.pages c.args.store.now in
     let t = g.T.EntrySink in
-    let amid = c.entries.invariant.0 (omega (arith, clean, c.next.ensures.kept.clean)) layout laid valid in
+    let amid = c.entries.invariant.0 (omega (arith, clean, c.next_row.ensures.kept.clean)) layout laid valid in
     let p = err_from_is_err_and c.from_residual.result c.from_residual.ensures.1 in
-    rw (p.1, p.2) (since _ _ _ _ _ c.entries.invariant.1.more_faults c.next.ensures.kept.more_faults
-    (since_first layout c.entries.batch (λ n p. FailsFor g.P.Pages c.entries.store c.next.new.store ⊥ c.in_err-next.field-0.0) size _ pages _
-    c.entries.invariant.1.same_size c.entries.invariant.2 (c.in_err-next.ensures.done clean layout) laid amid.valid))
+    rw (p.1, p.2) (since _ _ _ _ _ c.entries.invariant.1.more_faults c.next_row.ensures.kept.more_faults
+    (since_first layout c.entries.batch (λ n p. FailsFor g.P.Pages c.entries.store c.next_row.new.store ⊥ c.in_err-next_row.field-0.0) size _ pages _
+    c.entries.invariant.1.same_size c.entries.invariant.2 (c.in_err-next_row.ensures.done clean layout) laid amid.valid))
 
 pub returns-then-not-branch-clause-done : goal.returns-then-not-branch-clause-done
 returns-then-not-branch-clause-done g c clean layout laid valid = λ start rest all is.
     let size = g.P.Pages.size c.args.store.now in
     let pages = g.P.Pages.pages c.args.store.now in
     let t = g.T.EntrySink in
-    let amid = c.entries.invariant.0 (omega (arith, clean, c.next.ensures.kept.clean)) layout laid valid in
-    let took = subst (TookFirst layout size pages c.entries.batch c.next.new.self) c.if-not-branch.true (since_first layout c.entries.batch
-    (λ n p. TookFirst layout n p c.entries.batch c.next.new.self c.in_ok-next.field-0) size _ pages _ c.entries.invariant.1.same_size c.entries.invariant.2
-    (c.in_ok-next.ensures.done clean layout) laid amid.valid) in
-    handed_all t.Has t.Ends layout size pages c.args.batch.now c.entries.batch c.next.new.self c.args.sink.now c.entries.sink amid took start rest all is
+    let amid = c.entries.invariant.0 (omega (arith, clean, c.next_row.ensures.kept.clean)) layout laid valid in
+    let took = subst (TookFirst layout size pages c.entries.batch c.next_row.new.batch) c.if-not-branch.true (since_first layout c.entries.batch
+    (λ n p. TookFirst layout n p c.entries.batch c.next_row.new.batch c.in_ok-next_row.field-0) size _ pages _ c.entries.invariant.1.same_size c.entries.invariant.2
+    (c.in_ok-next_row.ensures.done clean layout) laid amid.valid) in
+    handed_all t.Has t.Ends layout size pages c.args.batch.now c.entries.batch c.next_row.new.batch c.args.sink.now c.entries.sink amid took start rest all is
 
 pub returns-in-Ok-false-clause-done : goal.returns-in-Ok-false-clause-done
 returns-in-Ok-false-clause-done g c clean layout laid valid = λ start rest all is.
     let size = g.P.Pages.size c.args.store.now in
     let pages = g.P.Pages.pages c.args.store.now in
     let t = g.T.EntrySink in
-    let amid = c.entries.invariant.0 (omega (arith, clean, c.next.ensures.kept.clean)) layout laid valid in
-    let took = subst (TookFirst layout size pages c.entries.batch c.next.new.self) c.if-not-branch.false (since_first layout c.entries.batch
-    (λ n p. TookFirst layout n p c.entries.batch c.next.new.self c.in_ok-next.field-0) size _ pages _ c.entries.invariant.1.same_size c.entries.invariant.2
-    (c.in_ok-next.ensures.done clean layout) laid amid.valid) in
-    handed_last t.Has t.Ends layout size pages c.args.batch.now c.entries.batch c.next.new.self c.args.sink.now c.entries.sink amid took c.payload.result.now c.payload.ensures
+    let amid = c.entries.invariant.0 (omega (arith, clean, c.next_row.ensures.kept.clean)) layout laid valid in
+    let took = subst (TookFirst layout size pages c.entries.batch c.next_row.new.batch) c.if-not-branch.false (since_first layout c.entries.batch
+    (λ n p. TookFirst layout n p c.entries.batch c.next_row.new.batch c.in_ok-next_row.field-0) size _ pages _ c.entries.invariant.1.same_size c.entries.invariant.2
+    (c.in_ok-next_row.ensures.done clean layout) laid amid.valid) in
+    handed_last t.Has t.Ends layout size pages c.args.batch.now c.entries.batch c.next_row.new.batch c.args.sink.now c.entries.sink amid took c.payload.result.now c.payload.ensures
     start rest all is c.take.new.self (c.take.ensures.last (c.in-Ok-false.is ∙ ap Ok c.in-Ok-false.field-0-test) start)
 
 pub returns-in-Err-clause-done : goal.returns-in-Err-clause-done
@@ -45,11 +45,11 @@ returns-in-Err-clause-done g c clean layout laid valid = λ start rest all is.
     let size = g.P.Pages.size c.args.store.now in
     let pages = g.P.Pages.pages c.args.store.now in
     let t = g.T.EntrySink in
-    let amid = c.entries.invariant.0 (omega (arith, clean, c.next.ensures.kept.clean)) layout laid valid in
-    let took = subst (TookFirst layout size pages c.entries.batch c.next.new.self) c.if-not-branch.false (since_first layout c.entries.batch
-    (λ n p. TookFirst layout n p c.entries.batch c.next.new.self c.in_ok-next.field-0) size _ pages _ c.entries.invariant.1.same_size c.entries.invariant.2
-    (c.in_ok-next.ensures.done clean layout) laid amid.valid) in
-    handed_none t.Has t.Ends layout size pages c.args.batch.now c.entries.batch c.next.new.self c.args.sink.now c.entries.sink amid took c.payload.result.now c.payload.ensures
+    let amid = c.entries.invariant.0 (omega (arith, clean, c.next_row.ensures.kept.clean)) layout laid valid in
+    let took = subst (TookFirst layout size pages c.entries.batch c.next_row.new.batch) c.if-not-branch.false (since_first layout c.entries.batch
+    (λ n p. TookFirst layout n p c.entries.batch c.next_row.new.batch c.in_ok-next_row.field-0) size _ pages _ c.entries.invariant.1.same_size c.entries.invariant.2
+    (c.in_ok-next_row.ensures.done clean layout) laid amid.valid) in
+    handed_none t.Has t.Ends layout size pages c.args.batch.now c.entries.batch c.next_row.new.batch c.args.sink.now c.entries.sink amid took c.payload.result.now c.payload.ensures
     start rest all is t.Refuses c.in-Err.refusal c.in-Err.ensures.refuses
 
 pub entries-preserved : goal.entries-preserved
@@ -58,12 +58,12 @@ entries-preserved g c = (
       let size = g.P.Pages.size c.args.store.now in
       let pages = g.P.Pages.pages c.args.store.now in
       let t = g.T.EntrySink in
-      let amid = c.entries.invariant.0 (omega (arith, clean, c.next.ensures.kept.clean)) layout laid valid in
-      let took = subst (TookFirst layout size pages c.entries.batch c.next.new.self) c.if-not-branch.false (since_first layout c.entries.batch
-      (λ n p. TookFirst layout n p c.entries.batch c.next.new.self c.in_ok-next.field-0) size _ pages _ c.entries.invariant.1.same_size c.entries.invariant.2
-      (c.in_ok-next.ensures.done clean layout) laid amid.valid) in
-      amid_next t.Has t.Ends layout size pages c.args.batch.now c.entries.batch c.next.new.self c.args.sink.now c.entries.sink amid took c.payload.result.now c.payload.ensures
+      let amid = c.entries.invariant.0 (omega (arith, clean, c.next_row.ensures.kept.clean)) layout laid valid in
+      let took = subst (TookFirst layout size pages c.entries.batch c.next_row.new.batch) c.if-not-branch.false (since_first layout c.entries.batch
+      (λ n p. TookFirst layout n p c.entries.batch c.next_row.new.batch c.in_ok-next_row.field-0) size _ pages _ c.entries.invariant.1.same_size c.entries.invariant.2
+      (c.in_ok-next_row.ensures.done clean layout) laid amid.valid) in
+      amid_next t.Has t.Ends layout size pages c.args.batch.now c.entries.batch c.next_row.new.batch c.args.sink.now c.entries.sink amid took c.payload.result.now c.payload.ensures
       c.take.new.self (c.take.ensures.more (c.in-Ok-true.is ∙ ap Ok c.in-Ok-true.field-0-test))),
-  Continues-trans g.P.Pages g.met.P.Pages.follows_trans c.entries.invariant.1 c.next.ensures.kept,
-  c.next.ensures.pages ∙ c.entries.invariant.2,
+  Continues-trans g.P.Pages g.met.P.Pages.follows_trans c.entries.invariant.1 c.next_row.ensures.kept,
+  c.next_row.ensures.pages ∙ c.entries.invariant.2,
 )

@@ -13,8 +13,8 @@ pub returns-clause-done : goal.returns-clause-done
 returns-clause-done g c clean has =
     let (layout, raw, laid, table) = has in
     let pages = g.P.Pages.pages c.args.store.now in
-    MatchResult-weaker c.get.result (c.get.ensures.done clean layout raw laid table)
-    (λ found is. subst (λ rows. Finds rows c.args.rowid (table_row (c.args.rowid, c.get.new.out.items)) found) (sym (table_reads pages laid table))
-    (finds_row c.args.rowid raw c.get.new.out.items found (ascends_rows table)
-    (subst (λ id. IsFound (by_rowid id) raw (id, c.get.new.out.items) found) (to_z-of_z c.ranges.rowid) is)))
+    MatchResult-weaker c.get_row.result (c.get_row.ensures.done clean layout raw laid table)
+    (λ found is. subst (λ rows. Finds rows c.args.rowid (table_row (c.args.rowid, c.get_row.new.payload.items)) found) (sym (table_reads pages laid table))
+    (finds_row c.args.rowid raw c.get_row.new.payload.items found (ascends_rows table)
+    (subst (λ id. IsFound (by_rowid id) raw (id, c.get_row.new.payload.items) found) (to_z-of_z c.ranges.rowid) is)))
     (λ e cause. cause)
