@@ -5,4 +5,5 @@ pub mod SumLists
 pub mod Permutations
 pub mod GroupMembers
 pub mod Joining
+pub mod PartSums
 pub mod RunSums
