@@ -25,7 +25,8 @@ column_small column k place [] there low = absurd (omega (arith, there))
 column_small column zero place (event ∷ events) there low =
     let one : (if bytes_eq event event then column place else 0) + column_named event column (suc place) events ≤ 2 ^ 63 = low event in
     let first : (if bytes_eq event event then column place else 0) ≡ column place = ap (λ b. if b then column place else 0) (bytes-self event) in
-    omega (arith, one, first)
+    let same = ap column (let none_more : zero + place ≡ place = omega arith in none_more) in
+    omega (arith, one, first, same)
 column_small column (suc k) place (event ∷ events) there low =
     let rest = column_small column k (suc place) events (omega (arith, there))
     (λ name. let both : (if bytes_eq event name then column place else 0) + column_named name column (suc place) events ≤ 2 ^ 63 = low name in omega (arith, both)) in

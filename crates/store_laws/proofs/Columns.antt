@@ -1,5 +1,5 @@
 -- Sums over rows, by the columns in which they stand.
-use Rattle.std.proofs.Common.{◌≡◌, ℕ, ◌+◌, ◌==◌, Bool, true, false, if◌then◌else◌, List, [], ◌∷◌, filter, sum_by, refl, sym, ap, ◌∙◌}
+use Rattle.std.proofs.Common.{◌≡◌, ℕ, ◌+◌, ◌==◌, Bool, true, false, if◌then◌else◌, List, [], ◌∷◌, filter, sum_by, refl, ap, ◌∙◌, arith}
 use Rattle.std.proofs.lemmas.List.Sums.{sum_by-cons}
 use Rattle.run_lists.specs.RowSums.{sum_of_part}
 
@@ -19,4 +19,4 @@ module _ {X : Type 0} (place amount : X → ℕ) where
       go : (b : Bool) → sum_by amount (filter (λ y. place y == k) xs) ≡ at k xs
           → sum_by amount (if b then x ∷ filter (λ y. place y == k) xs else filter (λ y. place y == k) xs) ≡ part b (amount x) + at k xs
       go true rest = sum_by-cons amount x (filter (λ y. place y == k) xs) ∙ ap (λ n. amount x + n) rest
-      go false rest = rest
+      go false rest = omega (arith, rest)

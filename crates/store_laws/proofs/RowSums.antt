@@ -41,8 +41,11 @@ row_of_event f place event =
 abbrev place_of : EventRow → ℕ
 place_of e = e.place
 
-differs : (a b : ℕ) → a < b → eqb b a ≡ false
-differs a b low = grind (arith, nat_tests)
+above_it : (a b : ℕ) → a < b → eqb b a ≡ false
+above_it a b low = grind (arith, nat_tests)
+
+below_it : (a b : ℕ) → a < b → eqb a b ≡ false
+below_it a b low = grind (arith, nat_tests)
 
 same_place : (a b : ℕ) → a ≡ b → eqb a b ≡ true
 same_place a b same = grind (arith, nat_tests)
@@ -52,7 +55,7 @@ module _ (m : EventRow → ℕ) (column : ℕ → ℕ) (f : File) (is : (place :
   before k place [] low = refl
   before k place (event ∷ events) low =
       let rest = before k (suc place) events (omega (arith, low)) in
-      let one : part (place == k) (m (row_of_event f place event)) ≡ 0 = ap (λ b. part b (m (row_of_event f place event))) (differs k place low) in
+      let one : part (place == k) (m (row_of_event f place event)) ≡ 0 = ap (λ b. part b (m (row_of_event f place event))) (above_it k place low) in
       omega (arith, rest, one)
 
   -- a place that is there has the sum of its column
@@ -61,28 +64,25 @@ module _ (m : EventRow → ℕ) (column : ℕ → ℕ) (f : File) (is : (place :
   within zero place (event ∷ events) low =
       let rest = before place (suc place) events (omega arith) in
       let one : part (place == place) (m (row_of_event f place event)) ≡ m (row_of_event f place event) = ap (λ b. part b (m (row_of_event f place event))) (same_place place place refl) in
-      let first = is place event in
-      omega (arith, rest, one, first)
+      let none_more : zero + place ≡ place = omega arith in
+      ap (λ n. at place_of m n (event_rows_from f place (event ∷ events))) none_more ∙ ap₂ ◌+◌ (one ∙ is place event) rest ∙ plus_none (column place) ∙ sym (ap column none_more)
+    where
+      plus_none : (n : ℕ) → n + 0 ≡ n
+      plus_none n = omega arith
   within (suc k) place (event ∷ events) low =
       let rest = within k (suc place) events (omega (arith, low)) in
       let later : k + suc place ≡ suc k + place = omega arith in
       let there = ap (λ n. at place_of m n (event_rows_from f (suc place) events)) (sym later) ∙ rest ∙ ap column later in
-      let one : part (place == suc k + place) (m (row_of_event f place event)) ≡ 0 = ap (λ b. part b (m (row_of_event f place event))) (other place (suc k + place) (omega arith)) in
+      let one : part (place == suc k + place) (m (row_of_event f place event)) ≡ 0 = ap (λ b. part b (m (row_of_event f place event))) (below_it place (suc k + place) (omega arith)) in
       omega (arith, there, one)
-    where
-      other : (a b : ℕ) → a < b → eqb a b ≡ false
-      other a b less = grind (arith, nat_tests)
 
   -- and behind them is none
   behind : (k place : ℕ) (events : List (List ℕ)) → length events + place ≤ k → at place_of m k (event_rows_from f place events) ≡ 0
   behind k place [] high = refl
   behind k place (event ∷ events) high =
       let rest = behind k (suc place) events (omega (arith, high)) in
-      let one : part (place == k) (m (row_of_event f place event)) ≡ 0 = ap (λ b. part b (m (row_of_event f place event))) (other place k (omega (arith, high))) in
+      let one : part (place == k) (m (row_of_event f place event)) ≡ 0 = ap (λ b. part b (m (row_of_event f place event))) (below_it place k (omega (arith, high))) in
       omega (arith, rest, one)
-    where
-      other : (a b : ℕ) → a < b → eqb a b ≡ false
-      other a b less = grind (arith, nat_tests)
 
   -- so each is that of its column, where the columns behind are 0
   pub each_column : (events : List (List ℕ)) → ((k : ℕ) → length events ≤ k → column k ≡ 0) → (k : ℕ) → sum_of_part place_of m k (event_rows_from f 0 events) ≡ column k
@@ -117,9 +117,12 @@ stacks_all : (stacks : List StackRow) → stacks_count (λ _. true) (map stack_h
 stacks_all [] = refl
 stacks_all (s ∷ stacks) = ap (λ n. s.count + n) (stacks_all stacks)
 
+no_part : (k : ℕ) → eqb 0 (suc k) ≡ false
+no_part k = grind (arith, nat_tests)
+
 stacks_behind : (k : ℕ) (stacks : List StackRow) → at (λ _. 0) (λ (s : StackRow). s.count) (suc k) stacks ≡ 0
 stacks_behind k [] = refl
-stacks_behind k (s ∷ stacks) = stacks_behind k stacks
+stacks_behind k (s ∷ stacks) = let rest = stacks_behind k stacks in let one : part (0 == suc k) s.count ≡ 0 = ap (λ b. part b s.count) (no_part k) in omega (arith, rest, one)
 
 -- in a folded file the samples are the counts of its stacks, and another has none
 samples_sum : (seen : List Seen) → frames_sum (λ _. true) seen ≡ self_sum (λ _. true) 0 (map sample seen)
