@@ -17,7 +17,8 @@ returns-in-Ok-clause-handed g c faithful = λ rows is order start begun.
     let there = shows_after _ _ _ rows c.begin_of.ensures.reads is in
     let fits : FitsSigned w64 from = c.in_ok-from.ensures.fits in
     let here : from_rowid (to_z w64 (of_z w64 from)) _ ≡ from_rowid from rows = ap₂ from_rowid (to_z-of_z fits) there.rows_are in
-    let nothing : (k : ℕ) → slice_index c.walk.new.sink.left.items k ≡ 0 = ? in
+    let nothing : (k : ℕ) → slice_index c.walk.new.sink.left.items k ≡ 0 =
+    λ k. ap (λ l. slice_index l k) (sym c.deref.ensures.value) ∙ c.is_nothing.ensures.0 c.if-is_nothing.true k in
     elim (c.in-Ok.ensures.done faithful there.wanted there.t there.shows (run, sums, start) (refl, ([], refl, none_off t.part t.amount sums, begun))) [
       | inl (is_run, (lines, are, leave, has)) ↦
           (lines, all_taken t.columns run from rows lines earlier (subst (λ l. AreOfRun t.columns run l lines) here are), all_off t.part t.amount lines sums _ leave nothing, has)

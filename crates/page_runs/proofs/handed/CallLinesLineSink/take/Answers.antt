@@ -3,4 +3,4 @@ use Rattle.store_schema.specs.Lines.{call_row}
 use Rattle.page_runs.proofs.handed.CallLinesLineSink.take.Goals as goal
 
 pub returns : goal.returns
-returns g c start lines was = (call_row c.in_ok-line.line, c.in_ok-line.ensures, refl, ?, c.in_ok-take_line.ensures start.0 start.1 lines was)
+returns g c start lines was = (call_row c.in_ok-line.line, c.in_ok-line.ensures, refl, sym c.get.ensures, c.in_ok-take_line.ensures start.0 start.1 lines was)

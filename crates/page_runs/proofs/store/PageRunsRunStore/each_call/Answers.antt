@@ -1,4 +1,4 @@
-use Rattle.std.proofs.Common.{refl, sym, ap, subst}
+use Rattle.std.proofs.Common.{refl, sym, subst}
 use Rattle.run_stores.specs.Walks.{CallsFoldTo}
 use Rattle.plain_tables.specs.RunRows.{calls_in}
 use Rattle.plain_tables.specs.Tables.{CallRow}

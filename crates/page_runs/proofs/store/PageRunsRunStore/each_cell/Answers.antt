@@ -1,4 +1,4 @@
-use Rattle.std.proofs.Common.{refl, sym, ap, subst}
+use Rattle.std.proofs.Common.{refl, sym, subst}
 use Rattle.run_stores.specs.Walks.{CellsFoldTo}
 use Rattle.plain_tables.specs.RunRows.{cells_in}
 use Rattle.plain_tables.specs.Tables.{CellRow}
