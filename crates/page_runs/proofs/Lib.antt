@@ -12,6 +12,7 @@ pub mod NameColumns
 pub mod NumberOfName
 mod Probing
 mod Rooting
+pub mod PartSums
 pub mod RunRows
 pub mod Shows
 pub mod SomeNames

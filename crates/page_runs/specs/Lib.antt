@@ -4,6 +4,7 @@ pub mod Kept
 pub mod Meta
 pub mod Names
 pub mod Opening
+pub mod PartSums
 pub mod Shown
 pub mod Sizes
 pub mod States

@@ -1,5 +1,5 @@
 // The cells, the calls and the stacks of a run, handed on: cells and calls with the numbers of their names.
-ghost use Rattle.std.specs.Prelude.{◌≡◌, ◌∷◌, List, fold, map, sum_by, IfOk};
+ghost use Rattle.std.specs.Prelude.{◌≡◌, ◌∷◌, List, fold, map, IfOk};
 ghost use Rattle.sqlite_record.specs.Fields.{fields_left};
 ghost use Rattle.page_files.specs.Files.{IsFaithful, OnlyReads};
 ghost use Rattle.plain_tables.specs.RunRows.{cells_in, calls_in, stacks_in};
@@ -9,12 +9,13 @@ ghost use Rattle.run_stores.specs.Walks.{CallsFoldTo, CellsFoldTo, cell_numbers}
 ghost use Rattle.store_schema.specs.Lines.{call_row, cell_row, held_stack};
 ghost use Rattle.store_schema.specs.Tables.{number, cell_columns, arc_columns, stack_columns};
 ghost use Rattle.page_runs.specs.Kept.{HasGathered};
+ghost use Rattle.page_runs.specs.PartSums.{SumTo};
 ghost use Rattle.page_runs.specs.Shown.{ShowsLines};
 
 use crate::fields::{copied_in, end_of, number_in, whole_in};
 use crate::hints::Hints;
 use crate::kept::{Gathered, KeptCells};
-use crate::run_rows::{LineSink, RunTable, each_line};
+use crate::run_rows::{Added, LineSink, RunTable, each_line};
 use cost_rows::Cell as CellOf;
 use held_lines::{CallLines, CellLines, StackLines};
 use page_files::PageFile;
@@ -103,6 +104,8 @@ impl<T: CellSink + Drop> LineSink for GatheredLines<T> {
 
     ghost Line = { Cell };
 
+    ghost part = { λ line. line.event };
+
     ghost amount = { λ line. line.cost };
 
     ghost columns = { cell_columns };
@@ -111,12 +114,15 @@ impl<T: CellSink + Drop> LineSink for GatheredLines<T> {
 
     ghost Has = { λ start lines s. HasTakenCellLines start.0 T.meaning T.step start.1 lines s.lines × HasGathered lines s.gathered };
 
-    fn take(&mut self, run: u32, fields: Fields<'_>) -> Result<u64, StoreError> {
+    fn take(&mut self, run: u32, fields: Fields<'_>) -> Result<Added, StoreError> {
         let line = read_cell(run, fields)?;
-        let cost = line.cost.get();
+        let added = Added {
+            part: line.event,
+            amount: line.cost.get(),
+        };
         self.gathered.add(&line);
         self.lines.take_line(line)?;
-        Ok(cost)
+        Ok(added)
     }
 }
 
@@ -128,6 +134,8 @@ impl<T: CallSink + Drop> LineSink for CallLines<T> {
 
     ghost Line = { Call };
 
+    ghost part = { λ line. line.part };
+
     ghost amount = { λ line. line.sum };
 
     ghost columns = { arc_columns };
@@ -136,11 +144,14 @@ impl<T: CallSink + Drop> LineSink for CallLines<T> {
 
     ghost Has = { λ start lines s. HasTakenCallLines start.0 T.meaning T.step start.1 lines s };
 
-    fn take(&mut self, run: u32, fields: Fields<'_>) -> Result<u64, StoreError> {
+    fn take(&mut self, run: u32, fields: Fields<'_>) -> Result<Added, StoreError> {
         let line = read_call(run, fields)?;
-        let sum = line.sum.get();
+        let added = Added {
+            part: line.part,
+            amount: line.sum.get(),
+        };
         self.take_line(line)?;
-        Ok(sum)
+        Ok(added)
     }
 }
 
@@ -158,6 +169,8 @@ impl<T: StackRowSink + Drop> LineSink for CopiedStacks<T> {
 
     ghost Line = { Stack };
 
+    ghost part = { λ _. 0 };
+
     ghost amount = { λ line. line.count };
 
     ghost columns = { stack_columns };
@@ -166,11 +179,14 @@ impl<T: StackRowSink + Drop> LineSink for CopiedStacks<T> {
 
     ghost Has = { λ start lines s. HasTakenStackLines T.meaning T.step start lines s.lines };
 
-    fn take(&mut self, run: u32, fields: Fields<'_>) -> Result<u64, StoreError> {
+    fn take(&mut self, run: u32, fields: Fields<'_>) -> Result<Added, StoreError> {
         let line = read_stack(self.alloc, run, fields)?;
-        let count = line.count.get();
+        let added = Added {
+            part: 0,
+            amount: line.count.get(),
+        };
         self.lines.take_line(line)?;
-        Ok(count)
+        Ok(added)
     }
 }
 
@@ -204,7 +220,7 @@ pub(crate) fn each_cell<D: Disk, T: CellSink + Drop>(
 ) -> Result<(T, Gathered), StoreError>
     ensures told { IsFaithful file.new → (t : Tables) → ShowsLines file.old table.root cell_columns (λ (c : Cell). c.run) t.cells
         → IfOk result (λ r. CellsFoldTo events T.step (T.meaning sink) (T.meaning r.0) (cells_in table.run t)
-        × (sum_by (λ (c : Cell). c.cost) (cells_in table.run t) ≡ table.sum) × HasGathered (cells_in table.run t) r.1) }
+        × SumTo (λ (c : Cell). c.event) (λ (c : Cell). c.cost) (cells_in table.run t) table.sums.items × HasGathered (cells_in table.run t) r.1) }
     ensures reads { OnlyReads file.old file.new }
 {
     let lines = GatheredLines {
@@ -225,7 +241,8 @@ pub(crate) fn each_call<D: Disk, T: CallSink + Drop>(
     sink: T,
 ) -> Result<T, StoreError>
     ensures told { IsFaithful file.new → (t : Tables) → ShowsLines file.old table.root arc_columns (λ (a : Call). a.run) t.calls
-        → IfOk result (λ taken. CallsFoldTo events T.step (T.meaning sink) (T.meaning taken) (calls_in table.run t) × (sum_by (λ (a : Call). a.sum) (calls_in table.run t) ≡ table.sum)) }
+        → IfOk result (λ taken. CallsFoldTo events T.step (T.meaning sink) (T.meaning taken) (calls_in table.run t)
+        × SumTo (λ (a : Call). a.part) (λ (a : Call). a.sum) (calls_in table.run t) table.sums.items) }
     ensures reads { OnlyReads file.old file.new }
 {
     let lines = CallLines::new(alloc, events, sink);
@@ -242,7 +259,8 @@ pub(crate) fn each_stack<D: Disk, T: StackRowSink + Drop>(
     sink: T,
 ) -> Result<T, StoreError>
     ensures told { IsFaithful file.new → (t : Tables) → ShowsLines file.old table.root stack_columns (λ (s : Stack). s.run) t.stacks
-        → IfOk result (λ taken. (T.meaning taken ≡ fold T.step (T.meaning sink) (stacks_held table.run t)) × (sum_by (λ (s : Stack). s.count) (stacks_in table.run t) ≡ table.sum)) }
+        → IfOk result (λ taken. (T.meaning taken ≡ fold T.step (T.meaning sink) (stacks_held table.run t))
+        × SumTo (λ _. 0) (λ (s : Stack). s.count) (stacks_in table.run t) table.sums.items) }
     ensures reads { OnlyReads file.old file.new }
 {
     let lines = CopiedStacks {

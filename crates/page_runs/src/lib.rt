@@ -23,6 +23,8 @@ mod lists;
 mod names;
 // Opens a store by the pages of its file.
 mod opening;
+// What is left of the sums of a run, while its rows are taken off them (specs/PartSums.antt).
+mod part_sums;
 // Where the rows of a run begin.
 mod places;
 // Records as rows of the tables.

@@ -3,6 +3,7 @@ ghost use Rattle.std.specs.Prelude.{◌≡◌, ◌∷◌, [], ℕ, IfErr, IfOk, 
 ghost use Rattle.sqlite_trees.specs.Tree.{Trees};
 ghost use Rattle.page_files.specs.Files.{IsFaithful, IsUsable, OnlyReads};
 ghost use Rattle.plain_tables.specs.Tables.{Tables};
+ghost use Rattle.run_lists.specs.HeldRuns.{NameHeldRuns};
 ghost use Rattle.run_lists.specs.Listed.{AreListed};
 ghost use Rattle.store_schema.specs.Tables.{Holds, meta_columns};
 ghost use Rattle.page_runs.specs.Meta.{IsMeta};
@@ -38,7 +39,7 @@ fn next_run<D: Disk>(file: &mut PageFile<D>, alloc: Global, root: u32) -> Result
 }
 
 /// Reads the small tables. `Store` where pages cannot be read, or rows are out of form.
-pub(crate) fn read_lists<D: Disk>(
+fn read_tables<D: Disk>(
     file: &mut PageFile<D>,
     alloc: Global,
     roots: &StoreRoots,
@@ -63,4 +64,21 @@ pub(crate) fn read_lists<D: Disk>(
         groups,
         members,
     })
+}
+
+/// The same, and looks whether they agree: runs rise, and each line of a run, each member and each baseline names a run
+/// that is listed. `Store` where they do not.
+pub(crate) fn read_lists<D: Disk>(
+    file: &mut PageFile<D>,
+    alloc: Global,
+    roots: &StoreRoots,
+) -> Result<RunLists, StoreError>
+    ensures listed { IsFaithful file.new → (t : Tables) (db : Trees) → Holds t db → StandUnder file.old db roots.now → IfOk result (AreListed t) }
+    ensures held { IfOk result (λ lists. (t : Tables) → AreListed t lists → NameHeldRuns t) }
+    ensures usable { OnOk result (IsUsable file.new) }
+    ensures reads { OnlyReads file.old file.new }
+{
+    let lists = read_tables(file, alloc, roots)?;
+    lists.check_runs(alloc)?;
+    Ok(lists)
 }

@@ -10,6 +10,7 @@ ghost use Rattle.run_stores.specs.Lookups.{IsKindOf};
 ghost use Rattle.run_lists.specs.Listed.{AreListed};
 ghost use Rattle.run_lists.specs.RowSums.{calls_of_run, cells_of_run, stacks_of_run};
 ghost use Rattle.page_runs.specs.Finished.{Commits, Finishes};
+ghost use Rattle.page_runs.specs.PartSums.{IsRunTable};
 ghost use Rattle.page_runs.specs.Sizes.{IsSizeOf};
 ghost use Rattle.page_runs.specs.States.{IsFaithful, RepresentsImage, state_of};
 ghost use Rattle.run_stores.specs.Calls.{Asks};
@@ -104,40 +105,40 @@ impl<D: Disk> PageRuns<D> {
         }
     }
 
-    /// Where the cells of a run are, and what they have to sum to.
+    /// Where the cells of a run are, and what they have to sum to, event by event.
     fn cells_of(&self, run: u32) -> Result<RunTable, StoreError>
-        ensures { (t : Tables) → AreListed t self.now.lists → IfOk result (λ table. table ≡ record { root = self.now.roots.cells; run = run; sum = cells_of_run run t; runs = length t.runs }) }
+        ensures { (t : Tables) → AreListed t self.now.lists → IfOk result (IsRunTable t self.now.roots.cells run (cells_of_run run t)) }
     {
         Ok(RunTable {
             root: self.roots.cells,
             run,
-            sum: self.lists.cells_sum_of(run)?,
+            sums: self.lists.cell_sums_of(self.alloc, run)?,
             runs: self.lists.run_count(),
         })
     }
 
     /// Where the calls of a run are, and what their parts have to sum to.
     fn calls_of(&self, run: u32) -> Result<RunTable, StoreError>
-        ensures { (t : Tables) → AreListed t self.now.lists → IfOk result (λ table. table ≡ record { root = self.now.roots.calls; run = run; sum = calls_of_run run t; runs = length t.runs }) }
+        ensures { (t : Tables) → AreListed t self.now.lists → IfOk result (IsRunTable t self.now.roots.calls run (calls_of_run run t)) }
     {
         Ok(RunTable {
             root: self.roots.calls,
             run,
-            sum: self.lists.calls_sum_of(run)?,
+            sums: self.lists.call_sums_of(self.alloc, run)?,
             runs: self.lists.run_count(),
         })
     }
 
     /// Where the stacks of a run are, and what their counts have to sum to.
     fn stacks_of(&self, run: u32) -> Result<RunTable, StoreError>
-        ensures { (t : Tables) → AreListed t self.now.lists → IfOk result (λ table. (kind : RunKind) × IsKindOf run t kind
-            × (table ≡ record { root = self.now.roots.stacks; run = run; sum = stacks_of_run kind run t; runs = length t.runs })) }
+        ensures { (t : Tables) → AreListed t self.now.lists
+            → IfOk result (λ table. (kind : RunKind) × IsKindOf run t kind × IsRunTable t self.now.roots.stacks run (stacks_of_run kind run t) table) }
     {
-        let sum = self.lists.stacks_sum_of(run)?;
+        let sums = self.lists.stack_sums_of(self.alloc, run)?;
         Ok(RunTable {
             root: self.roots.stacks,
             run,
-            sum,
+            sums,
             runs: self.lists.run_count(),
         })
     }

@@ -4,5 +4,7 @@ pub mod NumberLists
 pub mod SumLists
 pub mod Permutations
 pub mod GroupMembers
+pub mod HeldRuns
 pub mod Joining
+pub mod PartSums
 pub mod RunSums

@@ -1,3 +1,4 @@
+pub mod HeldRuns
 pub mod Lent
 pub mod Listed
 pub mod RowSums

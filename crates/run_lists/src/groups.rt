@@ -55,7 +55,7 @@ fn runs_of(alloc: Global, name: &str, members: &[&ListedMember]) -> Result<ListV
 }
 
 /// Whether numbers rise, so that none comes twice.
-fn numbers_rise(numbers: &[u32]) -> bool
+pub(crate) fn numbers_rise(numbers: &[u32]) -> bool
     ensures { IsTrue result ↔ AllAdjacentBelow (λ a b. a < b) numbers.now (length numbers.now) }
 {
     for k in 1..numbers.len() {

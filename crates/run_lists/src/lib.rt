@@ -4,6 +4,8 @@
 
 // The groups with their members.
 mod groups;
+// Whether lines name runs that are held (specs/HeldRuns.antt).
+mod held_runs;
 // The rows (specs/Listed.antt).
 mod listed;
 // What is asked of one run, one group or one digest.

@@ -76,6 +76,14 @@ pub struct ListedMember {
     pub run: u32,
 }
 
+impl OfRun for ListedMember {
+    ghost run_of = { λ l. l.run };
+
+    fn run(&self) -> u32 {
+        self.run
+    }
+}
+
 /// The number that the next run gets, and the rows of each small table, in the tables' order.
 #[derive(Drop)]
 pub struct RunLists {

@@ -28,7 +28,7 @@ fn copy_of(entry: &RunEntry) -> Result<RunEntry, AllocError>
 }
 
 /// The numbers of runs.
-fn numbers_of(alloc: Global, runs: &[ListedRun]) -> Result<Vec<u32>, AllocError>
+pub(crate) fn numbers_of(alloc: Global, runs: &[ListedRun]) -> Result<Vec<u32>, AllocError>
     ensures read { IfOk result (λ numbers. numbers.items ≡ map (λ r. r.entry.number) runs.now) }
 {
     runs.iter().map(|line| line.entry.number).collect(alloc)
@@ -46,7 +46,7 @@ fn runs_of(alloc: Global, members: &[ListedMember], name: &str) -> Result<Vec<u3
 }
 
 /// Whether a number is among those that are sorted.
-fn is_among(sorted: &[u32], number: u32) -> bool
+pub(crate) fn is_among(sorted: &[u32], number: u32) -> bool
     ensures found { IsNonDecreasing sorted.now → result ≡ list_any (λ n. n == number) sorted.now }
 {
     sorted.binary_search(&number).is_ok()

@@ -13,13 +13,13 @@ use plain_tables::StoreError;
 use std::alloc::{AllocError, Global};
 
 /// Sums from this on, 2^112, are refused.
-pub(crate) const SUM_END: u128 = 1 << 112;
+const SUM_END: u128 = 1 << 112;
 
 /// Sums of events: of self costs, and of the costs of calls.
 #[derive(Clone, Copy)]
-pub(crate) struct EventSums {
-    pub own: u128,
-    pub calls: u128,
+struct EventSums {
+    own: u128,
+    calls: u128,
 }
 
 /// The places of a run's events, each with its self cost.

@@ -1,6 +1,7 @@
--- The rows of a run sum to what the small tables say of it.
+-- The rows of a run sum to what the small tables say of it, part by part.
 use Rattle.std.proofs.Common.{◌≡◌, ℕ, zero, suc, ◌+◌, ◌<◌, ◌≤◌, true, false, ◌==◌, eqb, if◌then◌else◌, List, [], ◌∷◌, map, filter, length, sum_by, cond, refl, sym, ap, ap₂, subst, ◌∙◌, inl, inr, arith}
 use Rattle.std.specs.List.{AllByRecursion}
+use Rattle.std.proofs.lemmas.Bool.{cases_lt}
 use Rattle.std.proofs.lemmas.Bool.Decides.{nat_tests}
 use Rattle.std.proofs.lemmas.List.Sums.{sum_by-cons}
 use Rattle.cost_rows.specs.StackSums.{frames_sum}
@@ -26,8 +27,9 @@ use Rattle.histories.specs.Sums.{call_column, self_column}
 use Rattle.histories.proofs.Invariants.{IsBefore, numbered}
 use Rattle.histories.proofs.Tests.{Pairs}
 use Rattle.run_stores.specs.Lookups.{IsKindOf}
-use Rattle.run_lists.specs.RowSums.{calls_of_run, cells_of_run, stacks_of_run}
-use Rattle.store_laws.proofs.Columns.{at, by_column, over, over_later, over_same}
+use Rattle.run_stores.specs.SelfSums.{events_of_run}
+use Rattle.run_lists.specs.RowSums.{calls_of_run, cells_of_run, stacks_of_run, sum_of_part}
+use Rattle.store_laws.proofs.Columns.{at, at_part, part}
 use Rattle.store_laws.proofs.Widths.{file_narrow, no_calls, no_self}
 
 -- ---- the rows of events
@@ -36,11 +38,70 @@ abbrev row_of_event : File → ℕ → List ℕ → EventRow
 row_of_event f place event =
     record { run = f.number; place = place; name = event; self_cost = self_column f.format f.bytes place; call_cost = call_column f.format f.bytes place; stated = stated_at (stated_of f.format f.bytes) place }
 
-events_sum : (m : EventRow → ℕ) (column : ℕ → ℕ) (f : File) (place : ℕ) (events : List (List ℕ)) → ((place : ℕ) (event : List ℕ) → m (row_of_event f place event) ≡ column place)
-    → sum_by m (event_rows_from f place events) ≡ over column place (length events)
-events_sum m column f place [] is = refl
-events_sum m column f place (event ∷ events) is =
-    sum_by-cons m (row_of_event f place event) (event_rows_from f (suc place) events) ∙ ap₂ ◌+◌ (is place event) (events_sum m column f (suc place) events is)
+abbrev place_of : EventRow → ℕ
+place_of e = e.place
+
+above_it : (a b : ℕ) → a < b → eqb b a ≡ false
+above_it a b low = grind (arith, nat_tests)
+
+below_it : (a b : ℕ) → a < b → eqb a b ≡ false
+below_it a b low = grind (arith, nat_tests)
+
+same_place : (a b : ℕ) → a ≡ b → eqb a b ≡ true
+same_place a b same = grind (arith, nat_tests)
+
+module _ (m : EventRow → ℕ) (column : ℕ → ℕ) (f : File) (is : (place : ℕ) (event : List ℕ) → m (row_of_event f place event) ≡ column place) where
+  before : (k place : ℕ) (events : List (List ℕ)) → k < place → at place_of m k (event_rows_from f place events) ≡ 0
+  before k place [] low = refl
+  before k place (event ∷ events) low =
+      let rest = before k (suc place) events (omega (arith, low)) in
+      let one : part (place == k) (m (row_of_event f place event)) ≡ 0 = ap (λ b. part b (m (row_of_event f place event))) (above_it k place low) in
+      omega (arith, rest, one)
+
+  -- a place that is there has the sum of its column
+  within : (k place : ℕ) (events : List (List ℕ)) → k < length events → at place_of m (k + place) (event_rows_from f place events) ≡ column (k + place)
+  within k place [] low = absurd (omega (arith, low))
+  within zero place (event ∷ events) low =
+      let rest = before place (suc place) events (omega arith) in
+      let one : part (place == place) (m (row_of_event f place event)) ≡ m (row_of_event f place event) = ap (λ b. part b (m (row_of_event f place event))) (same_place place place refl) in
+      let none_more : zero + place ≡ place = omega arith in
+      ap (λ n. at place_of m n (event_rows_from f place (event ∷ events))) none_more ∙ ap₂ ◌+◌ (one ∙ is place event) rest ∙ plus_none (column place) ∙ sym (ap column none_more)
+    where
+      plus_none : (n : ℕ) → n + 0 ≡ n
+      plus_none n = omega arith
+  within (suc k) place (event ∷ events) low =
+      let rest = within k (suc place) events (omega (arith, low)) in
+      let later : k + suc place ≡ suc k + place = omega arith in
+      let there = ap (λ n. at place_of m n (event_rows_from f (suc place) events)) (sym later) ∙ rest ∙ ap column later in
+      let one : part (place == suc k + place) (m (row_of_event f place event)) ≡ 0 = ap (λ b. part b (m (row_of_event f place event))) (below_it place (suc k + place) (omega arith)) in
+      omega (arith, there, one)
+
+  -- and behind them is none
+  behind : (k place : ℕ) (events : List (List ℕ)) → length events + place ≤ k → at place_of m k (event_rows_from f place events) ≡ 0
+  behind k place [] high = refl
+  behind k place (event ∷ events) high =
+      let rest = behind k (suc place) events (omega (arith, high)) in
+      let one : part (place == k) (m (row_of_event f place event)) ≡ 0 = ap (λ b. part b (m (row_of_event f place event))) (below_it place k (omega (arith, high))) in
+      omega (arith, rest, one)
+
+  -- so each is that of its column, where the columns behind are 0
+  pub each_column : (events : List (List ℕ)) → ((k : ℕ) → length events ≤ k → column k ≡ 0) → (k : ℕ) → sum_of_part place_of m k (event_rows_from f 0 events) ≡ column k
+  each_column events none k = at_part place_of m k (event_rows_from f 0 events) ∙ elim (cases_lt k (length events)) [
+    | inl low ↦ (let same : k + 0 ≡ k = omega arith in ap (λ n. at place_of m n (event_rows_from f 0 events)) (sym same) ∙ within k 0 events low ∙ ap column same)
+    | inr high ↦ behind k 0 events (omega (arith, high)) ∙ sym (none k high)
+  ]
+
+-- their places are below their number
+places_below : (f : File) (place : ℕ) (events : List (List ℕ)) → AllByRecursion (λ (e : EventRow). e.place < length events + place) (event_rows_from f place events)
+places_below f place [] = tt
+places_below f place (event ∷ events) = (
+  omega arith,
+  subst (λ n. AllByRecursion (λ (e : EventRow). e.place < n) (event_rows_from f (suc place) events)) (let later : length events + suc place ≡ suc (length events) + place = omega arith in later) (places_below f (suc place) events),
+)
+
+rows_counted : (f : File) (place : ℕ) (events : List (List ℕ)) → length (event_rows_from f place events) ≡ length events
+rows_counted f place [] = refl
+rows_counted f place (event ∷ events) = ap suc (rows_counted f (suc place) events)
 
 -- ---- rows of cells, of calls and of stacks, as sums by column
 
@@ -52,22 +113,31 @@ parts_at : (names : List NameRow) (k : ℕ) (calls : List CallRow) → parts_sum
 parts_at names k [] = refl
 parts_at names k (a ∷ calls) = ap (λ n. (if a.part == k then a.sum else 0) + n) (parts_at names k calls)
 
-stacks_all : (stacks : List StackRow) → stacks_count (λ _. true) (map stack_held stacks) ≡ sum_by (λ (s : StackRow). s.count) stacks
+stacks_all : (stacks : List StackRow) → stacks_count (λ _. true) (map stack_held stacks) ≡ at (λ _. 0) (λ (s : StackRow). s.count) 0 stacks
 stacks_all [] = refl
-stacks_all (s ∷ stacks) = ap (λ n. s.count + n) (stacks_all stacks) ∙ sym (sum_by-cons (λ (s : StackRow). s.count) s stacks)
+stacks_all (s ∷ stacks) = ap (λ n. s.count + n) (stacks_all stacks)
+
+no_part : (k : ℕ) → eqb 0 (suc k) ≡ false
+no_part k = grind (arith, nat_tests)
+
+stacks_behind : (k : ℕ) (stacks : List StackRow) → at (λ _. 0) (λ (s : StackRow). s.count) (suc k) stacks ≡ 0
+stacks_behind k [] = refl
+stacks_behind k (s ∷ stacks) = let rest = stacks_behind k stacks in let one : part (0 == suc k) s.count ≡ 0 = ap (λ b. part b s.count) (no_part k) in omega (arith, rest, one)
 
 -- in a folded file the samples are the counts of its stacks, and another has none
 samples_sum : (seen : List Seen) → frames_sum (λ _. true) seen ≡ self_sum (λ _. true) 0 (map sample seen)
 samples_sum [] = refl
 samples_sum (s ∷ seen) = ap (λ n. s.stack.count + n) (samples_sum seen)
 
-stacks_are : (n : ℕ) (t : Tables) (format : Format) (bytes : List ℕ) → cells_of_run n t ≡ over (self_column format bytes) 0 (length (events_of format bytes))
-    → frames_sum (λ _. true) (stacks_of format bytes) ≡ stacks_of_run (kind_in format) n t
+stacks_are : (n : ℕ) (t : Tables) (format : Format) (bytes : List ℕ) → ((k : ℕ) → cells_of_run n t k ≡ self_column format bytes k)
+    → frames_sum (λ _. true) (stacks_of format bytes) ≡ stacks_of_run (kind_in format) n t 0
 stacks_are n t (Callgrind g) bytes same = refl
-stacks_are n t Folded bytes same =
-    let one : cells_of_run n t ≡ self_column Folded bytes 0 + 0 = same in
-    let all : frames_sum (λ _. true) (stacks_of_file bytes) ≡ self_column Folded bytes 0 = samples_sum (stacks_of_file bytes) in
-    omega (arith, one, all)
+stacks_are n t Folded bytes same = samples_sum (stacks_of_file bytes) ∙ sym (same 0)
+
+one_event : (n : ℕ) (t : Tables) (format : Format) (bytes : List ℕ) → ((k : ℕ) → cells_of_run n t k ≡ self_column format bytes k)
+    → ((k : ℕ) → length (events_of format bytes) ≤ k → self_column format bytes k ≡ 0) → (k : ℕ) → stacks_of_run (kind_in format) n t (suc k) ≡ 0
+one_event n t (Callgrind g) bytes same none k = refl
+one_event n t Folded bytes same none k = same (suc k) ∙ none (suc k) (omega arith)
 
 -- ---- a run of the book and its file
 
@@ -75,40 +145,51 @@ module _ (t : Tables) (r : RunRow) (f : File) (is : IsBookOf f (run_held t r)) w
   abbrev many : ℕ
   many = length (events_of f.format f.bytes)
 
-  pub self_costs : cells_of_run r.number t ≡ over (self_column f.format f.bytes) 0 many
-  self_costs = ap (sum_by (λ (e : EventRow). e.self_cost)) is.events ∙ events_sum (λ (e : EventRow). e.self_cost) (self_column f.format f.bytes) f 0 (events_of f.format f.bytes) (λ place event. refl)
+  pub self_behind : (k : ℕ) → many ≤ k → self_column f.format f.bytes k ≡ 0
+  self_behind k high = no_self many k high (λ _. true) (records_of f.format f.bytes) (file_narrow f.format f.bytes)
 
-  pub cells_sum : sum_by (λ (c : CellRow). c.cost) (cells_in r.number t) ≡ cells_of_run r.number t
-  cells_sum =
-      by_column (λ (c : CellRow). c.event) (λ (c : CellRow). c.cost) many (cells_in r.number t)
-      (λ k high. sym (cells_at t.names k (cells_in r.number t)) ∙ is.cells (λ _. true) k ∙ no_self many k high (λ _. true) (records_of f.format f.bytes) (file_narrow f.format f.bytes))
-      ∙ over_same (λ k. at (λ (c : CellRow). c.event) (λ (c : CellRow). c.cost) k (cells_in r.number t)) (self_column f.format f.bytes) 0 many
-      (λ k. sym (cells_at t.names k (cells_in r.number t)) ∙ is.cells (λ _. true) k)
-      ∙ sym self_costs
+  pub calls_behind : (k : ℕ) → many ≤ k → call_column f.format f.bytes k ≡ 0
+  calls_behind k high = no_calls many k high (λ _ _. true) (records_of f.format f.bytes) (file_narrow f.format f.bytes)
+
+  pub self_costs : (k : ℕ) → cells_of_run r.number t k ≡ self_column f.format f.bytes k
+  self_costs k =
+      ap (sum_of_part place_of (λ (e : EventRow). e.self_cost) k) is.events
+      ∙ each_column (λ (e : EventRow). e.self_cost) (self_column f.format f.bytes) f (λ place event. refl) (events_of f.format f.bytes) self_behind k
+
+  pub call_costs : (k : ℕ) → calls_of_run r.number t (suc k) ≡ call_column f.format f.bytes k
+  call_costs k =
+      ap (sum_of_part place_of (λ (e : EventRow). e.call_cost) k) is.events
+      ∙ each_column (λ (e : EventRow). e.call_cost) (call_column f.format f.bytes) f (λ place event. refl) (events_of f.format f.bytes) calls_behind k
+
+  pub cells_sum : (k : ℕ) → sum_of_part (λ (c : CellRow). c.event) (λ (c : CellRow). c.cost) k (cells_in r.number t) ≡ cells_of_run r.number t k
+  cells_sum k =
+      at_part (λ (c : CellRow). c.event) (λ (c : CellRow). c.cost) k (cells_in r.number t)
+      ∙ sym (cells_at t.names k (cells_in r.number t)) ∙ is.cells (λ _. true) k ∙ sym (self_costs k)
 
   -- column 0 of parts counts the calls, and each other is one of costs
-  abbrev parts_in : ℕ → ℕ
-  parts_in k = at (λ (a : CallRow). a.part) (λ (a : CallRow). a.sum) k (calls_in r.number t)
+  pub parts_sum_to : calls_of_run r.number t 0 ≡ r.call_count
+      → (k : ℕ) → sum_of_part (λ (a : CallRow). a.part) (λ (a : CallRow). a.sum) k (calls_in r.number t) ≡ calls_of_run r.number t k
+  parts_sum_to alone zero =
+      at_part (λ (a : CallRow). a.part) (λ (a : CallRow). a.sum) 0 (calls_in r.number t)
+      ∙ sym (parts_at t.names 0 (calls_in r.number t)) ∙ is.counts (λ _ _. true) ∙ sym is.call_count ∙ sym alone
+  parts_sum_to alone (suc k) =
+      at_part (λ (a : CallRow). a.part) (λ (a : CallRow). a.sum) (suc k) (calls_in r.number t)
+      ∙ sym (parts_at t.names (suc k) (calls_in r.number t)) ∙ is.costs (λ _ _. true) k ∙ sym (call_costs k)
 
-  costs_are : (k : ℕ) → parts_in (suc k) ≡ call_column f.format f.bytes k
-  costs_are k = sym (parts_at t.names (suc k) (calls_in r.number t)) ∙ is.costs (λ _ _. true) k
+  pub stacks_sum : (k : ℕ) → sum_of_part (λ _. 0) (λ (s : StackRow). s.count) k (stacks_in r.number t) ≡ stacks_of_run (kind_in f.format) r.number t k
+  stacks_sum zero =
+      at_part (λ _. 0) (λ (s : StackRow). s.count) 0 (stacks_in r.number t)
+      ∙ sym (stacks_all (stacks_in r.number t)) ∙ is.stacks (λ _. true) ∙ stacks_are r.number t f.format f.bytes self_costs
+  stacks_sum (suc k) =
+      at_part (λ _. 0) (λ (s : StackRow). s.count) (suc k) (stacks_in r.number t)
+      ∙ stacks_behind k (stacks_in r.number t) ∙ sym (one_event r.number t f.format f.bytes self_costs self_behind k)
 
-  no_part : (k : ℕ) → suc many ≤ k → parts_in k ≡ 0
-  no_part zero high = absurd (omega (arith, high))
-  no_part (suc k) high = costs_are k ∙ no_calls many k (omega (arith, high)) (λ _ _. true) (records_of f.format f.bytes) (file_narrow f.format f.bytes)
-
-  pub call_costs : sum_by (λ (e : EventRow). e.call_cost) (filter (λ (e : EventRow). e.run == r.number) t.events) ≡ over (call_column f.format f.bytes) 0 many
-  call_costs = ap (sum_by (λ (e : EventRow). e.call_cost)) is.events ∙ events_sum (λ (e : EventRow). e.call_cost) (call_column f.format f.bytes) f 0 (events_of f.format f.bytes) (λ place event. refl)
-
-  pub parts_sum_to : sum_by (λ (a : CallRow). a.sum) (calls_in r.number t) ≡ r.call_count + sum_by (λ (e : EventRow). e.call_cost) (filter (λ (e : EventRow). e.run == r.number) t.events)
-  parts_sum_to =
-      by_column (λ (a : CallRow). a.part) (λ (a : CallRow). a.sum) (suc many) (calls_in r.number t) no_part
-      ∙ ap₂ ◌+◌
-      (sym (parts_at t.names 0 (calls_in r.number t)) ∙ is.counts (λ _ _. true) ∙ sym is.call_count)
-      (sym (over_later parts_in 0 many) ∙ over_same (λ k. parts_in (suc k)) (call_column f.format f.bytes) 0 many costs_are ∙ sym call_costs)
-
-  pub stacks_sum : sum_by (λ (s : StackRow). s.count) (stacks_in r.number t) ≡ stacks_of_run (kind_in f.format) r.number t
-  stacks_sum = sym (stacks_all (stacks_in r.number t)) ∙ is.stacks (λ _. true) ∙ stacks_are r.number t f.format f.bytes self_costs
+  pub places_low : AllByRecursion (λ (e : EventRow). e.place < length (events_of_run r.number t)) (events_of_run r.number t)
+  places_low =
+      let events : List (List ℕ) = events_of f.format f.bytes in
+      let counted : length (event_rows_from f 0 events) ≡ length events + 0 = rows_counted f 0 events ∙ (let same : length events ≡ length events + 0 = omega arith in same) in
+      subst (λ l. AllByRecursion (λ (e : EventRow). e.place < length l) l) (sym is.events)
+      (subst (λ n. AllByRecursion (λ (e : EventRow). e.place < n) (event_rows_from f 0 events)) (sym counted) (places_below f 0 events))
 
 -- ---- the runs of tables stand apart by their numbers
 
@@ -166,8 +247,11 @@ module _ (h : History) (t : Tables) (represent : TablesRepresent h t) where
   pub held_file : (r : RunRow) → Has t.runs r → (f : File) × Has (held h) f × IsBookOf f (run_held t r)
   held_file r there = file_of t t.runs (held h) r represent.runs there
 
-  pub cells_told : (r : RunRow) → Has t.runs r → sum_by (λ (c : CellRow). c.cost) (cells_in r.number t) ≡ cells_of_run r.number t
+  pub cells_told : (r : RunRow) → Has t.runs r → (k : ℕ) → sum_of_part (λ (c : CellRow). c.event) (λ (c : CellRow). c.cost) k (cells_in r.number t) ≡ cells_of_run r.number t k
   cells_told r there = let is = held_file r there in cells_sum t r is.0 is.2
+
+  pub placed : (r : RunRow) → Has t.runs r → AllByRecursion (λ (e : EventRow). e.place < length (events_of_run r.number t)) (events_of_run r.number t)
+  placed r there = let is = held_file r there in places_low t r is.0 is.2
 
   -- the run stands alone with its number
   pub count_alone : (r : RunRow) → Has t.runs r → sum_by (λ (q : RunRow). q.call_count) (filter (λ (q : RunRow). q.number == r.number) t.runs) ≡ r.call_count
@@ -175,10 +259,8 @@ module _ (h : History) (t : Tables) (represent : TablesRepresent h t) where
       ap (sum_by (λ (q : RunRow). q.call_count)) (kept_alone t.runs r (earlier_of t t.runs (held h) represent.runs (numbered h represent.legal).rising) there)
       ∙ sum_by-cons (λ (q : RunRow). q.call_count) r [] ∙ omega arith
 
-  pub calls_told : (r : RunRow) → Has t.runs r → sum_by (λ (a : CallRow). a.sum) (calls_in r.number t) ≡ calls_of_run r.number t
-  calls_told r there =
-      let is = held_file r there in
-      parts_sum_to t r is.0 is.2 ∙ ap (λ n. n + sum_by (λ (e : EventRow). e.call_cost) (filter (λ (e : EventRow). e.run == r.number) t.events)) (sym (count_alone r there))
+  pub calls_told : (r : RunRow) → Has t.runs r → (k : ℕ) → sum_of_part (λ (a : CallRow). a.part) (λ (a : CallRow). a.sum) k (calls_in r.number t) ≡ calls_of_run r.number t k
+  calls_told r there = let is = held_file r there in parts_sum_to t r is.0 is.2 (count_alone r there)
 
   same_kind : (a b : Kind) → kind_number a ≡ kind_number b → a ≡ b
   same_kind kinds.Callgrind kinds.Callgrind same = refl
@@ -186,9 +268,9 @@ module _ (h : History) (t : Tables) (represent : TablesRepresent h t) where
   same_kind kinds.Folded kinds.Callgrind same = absurd (omega (arith, same))
   same_kind kinds.Folded kinds.Folded same = refl
 
-  pub stacks_told : (n : ℕ) (kind : Kind) → IsKindOf n t kind → sum_by (λ (s : StackRow). s.count) (stacks_in n t) ≡ stacks_of_run kind n t
-  stacks_told n kind it =
+  pub stacks_told : (n : ℕ) (kind : Kind) → IsKindOf n t kind → (k : ℕ) → sum_of_part (λ _. 0) (λ (s : StackRow). s.count) k (stacks_in n t) ≡ stacks_of_run kind n t k
+  stacks_told n kind it k =
       let r = it.0 in
       let is = held_file r it.1 in
       let same : kind_in is.0.format ≡ kind = same_kind (kind_in is.0.format) kind (sym is.2.kind ∙ it.3) in
-      subst (λ m. sum_by (λ (s : StackRow). s.count) (stacks_in m t) ≡ stacks_of_run kind m t) it.2 (stacks_sum t r is.0 is.2 ∙ ap (λ k. stacks_of_run k r.number t) same)
+      subst (λ m. sum_of_part (λ _. 0) (λ (s : StackRow). s.count) k (stacks_in m t) ≡ stacks_of_run kind m t k) it.2 (stacks_sum t r is.0 is.2 k ∙ ap (λ a. stacks_of_run a r.number t k) same)

@@ -1,6 +1,7 @@
 // Which history a store has that is in memory, or was of version 1, and what the rows of each run sum to: laws of the
 // definitions, the contracts of functions that do nothing.
-ghost use Rattle.std.specs.Prelude.{◌≡◌, ◌<◌, ◌^◌, ℕ, Bool, true, sum_by};
+ghost use Rattle.std.specs.Prelude.{◌≡◌, ◌<◌, ◌^◌, ℕ, Bool, true, length};
+ghost use Rattle.std.specs.List.{AllByRecursion};
 ghost use Rattle.sqlite.specs.Held.{state};
 ghost use Rattle.sqlite.specs.declared.connection.Connection.{Connection};
 ghost use Rattle.sql_tables.specs.States.{LeavesJust as Leaves};
@@ -9,10 +10,11 @@ ghost use Rattle.sqlite_trees.specs.declared.memory.MemStore.{MemStore};
 ghost use Rattle.prof_store.specs.Schemas.{Opened};
 ghost use Rattle.plain_tables.specs.Lists.{Has};
 ghost use Rattle.plain_tables.specs.RunRows.{calls_in, cells_in, stacks_in};
-ghost use Rattle.plain_tables.specs.Tables.{Tables, RunRow, CellRow, CallRow, StackRow};
+ghost use Rattle.plain_tables.specs.Tables.{Tables, RunRow, EventRow, CellRow, CallRow, StackRow};
 ghost use Rattle.profile_records.specs.declared.kinds.Kind.{Kind};
 ghost use Rattle.run_stores.specs.Lookups.{IsKindOf};
-ghost use Rattle.run_lists.specs.RowSums.{calls_of_run, cells_of_run, stacks_of_run};
+ghost use Rattle.run_stores.specs.SelfSums.{events_of_run};
+ghost use Rattle.run_lists.specs.RowSums.{calls_of_run, cells_of_run, stacks_of_run, sum_of_part};
 ghost use Rattle.histories.specs.History.{History};
 ghost use Rattle.histories.specs.Marks.{IsMarked};
 ghost use Rattle.histories.specs.Representation.{TablesRepresent};
@@ -44,18 +46,20 @@ pub fn memory_keeps_its_history()
     memory_never_fails();
 }
 
-/// In tables that represent a history, the rows of each run that is held sum to what the small tables say of it: its
-/// cells to the self costs of its events, the parts of its calls to how many there are and what they cost in its
-/// events, and its stacks to the samples of a folded file. The lists of the small tables refuse sums of 2^112 or
-/// more, and these are below. So where tables represent a history, a store that is read from its pages has no sum of
-/// rows to be refused for.
+/// In tables that represent a history, the rows of each run that is held sum to what the small tables say of it, part by
+/// part: its cells of an event to the self cost of the event, part 0 of its calls to how many there are and each other
+/// to what they cost in an event, and its stacks to the samples of a folded file. The lists of the small tables refuse
+/// sums of 2^64 or more, and events at other places than those below their number; here is none. So where tables
+/// represent a history, a store that is read from its pages has no sum of rows to be refused for.
 pub fn rows_sum_to_the_small_tables()
-    ensures cells { (h : History) (t : Tables) (r : RunRow) → TablesRepresent h t → Has t.runs r
-        → sum_by (λ (c : CellRow). c.cost) (cells_in r.number t) ≡ cells_of_run r.number t }
-    ensures calls { (h : History) (t : Tables) (r : RunRow) → TablesRepresent h t → Has t.runs r
-        → sum_by (λ (a : CallRow). a.sum) (calls_in r.number t) ≡ calls_of_run r.number t }
-    ensures stacks { (h : History) (t : Tables) (n : ℕ) (kind : Kind) → TablesRepresent h t → IsKindOf n t kind
-        → sum_by (λ (s : StackRow). s.count) (stacks_in n t) ≡ stacks_of_run kind n t }
-    ensures small { (h : History) (t : Tables) (r : RunRow) → TablesRepresent h t → Has t.runs r
-        → (cells_of_run r.number t < 2 ^ 112) × (calls_of_run r.number t < 2 ^ 112) }
+    ensures cells { (h : History) (t : Tables) (r : RunRow) → TablesRepresent h t → Has t.runs r → (k : ℕ)
+        → sum_of_part (λ (c : CellRow). c.event) (λ (c : CellRow). c.cost) k (cells_in r.number t) ≡ cells_of_run r.number t k }
+    ensures calls { (h : History) (t : Tables) (r : RunRow) → TablesRepresent h t → Has t.runs r → (k : ℕ)
+        → sum_of_part (λ (a : CallRow). a.part) (λ (a : CallRow). a.sum) k (calls_in r.number t) ≡ calls_of_run r.number t k }
+    ensures stacks { (h : History) (t : Tables) (n : ℕ) (kind : Kind) → TablesRepresent h t → IsKindOf n t kind → (k : ℕ)
+        → sum_of_part (λ _. 0) (λ (s : StackRow). s.count) k (stacks_in n t) ≡ stacks_of_run kind n t k }
+    ensures small { (h : History) (t : Tables) (r : RunRow) → TablesRepresent h t → Has t.runs r → (k : ℕ)
+        → (cells_of_run r.number t k < 2 ^ 64) × (calls_of_run r.number t k < 2 ^ 64) }
+    ensures placed { (h : History) (t : Tables) (r : RunRow) → TablesRepresent h t → Has t.runs r
+        → AllByRecursion (λ (e : EventRow). e.place < length (events_of_run r.number t)) (events_of_run r.number t) }
 {}

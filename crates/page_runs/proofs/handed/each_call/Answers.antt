@@ -1,8 +1,9 @@
-use Rattle.std.proofs.Common.{sum_by, refl, sym, ap, subst, ◌∙◌}
+use Rattle.std.proofs.Common.{refl, sym, ap, subst, ◌∙◌}
 use Rattle.std.proofs.lemmas.Result.{IfOk-weaker}
 use Rattle.plain_tables.specs.Tables.{CallRow}
 use Rattle.store_schema.specs.Tables.{arc_columns}
 use Rattle.store_schema.proofs.RunRows.{one_call}
+use Rattle.run_lists.specs.RowSums.{sum_of_part}
 use Rattle.run_stores.specs.Walks.{CallsFoldTo}
 use Rattle.page_runs.proofs.RunRows.{lines_are, shown_in_order}
 use Rattle.page_runs.proofs.handed.each_call.Goals as goal
@@ -18,5 +19,5 @@ returns-clause-told g c faithful t is =
     IfOk-weaker c.finish.result _ _
     (λ taken comes. (
       subst (CallsFoldTo c.args.events sink.step start (sink.meaning taken)) (sym same) (comes c.args.events start lines has),
-      ap (sum_by (λ (r : CallRow). r.sum)) same ∙ sums,
+      λ k. ap (sum_of_part (λ (r : CallRow). r.part) (λ (r : CallRow). r.sum) k) same ∙ sums k,
     )) c.finish.ensures

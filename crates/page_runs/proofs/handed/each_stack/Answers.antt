@@ -1,8 +1,9 @@
-use Rattle.std.proofs.Common.{fold, map, sum_by, refl, sym, ap, ◌∙◌}
+use Rattle.std.proofs.Common.{fold, map, refl, sym, ap, ◌∙◌}
 use Rattle.plain_tables.specs.Tables.{StackRow}
 use Rattle.prof_books.specs.Book.{stack_held}
 use Rattle.store_schema.specs.Tables.{stack_columns}
 use Rattle.store_schema.proofs.RunRows.{one_stack}
+use Rattle.run_lists.specs.RowSums.{sum_of_part}
 use Rattle.page_runs.proofs.RunRows.{lines_are, shown_in_order}
 use Rattle.page_runs.proofs.handed.each_stack.Goals as goal
 
@@ -15,5 +16,5 @@ returns-clause-told g c faithful t is =
     let (lines, are, sums, has) = c.in_ok-lines.ensures.handed faithful is.rows is.shows order start c.new.ensures in
     let same = lines_are stack_columns run (λ r. refl) one_stack c.args.table.run is.rows t.stacks is.lines_are lines are in (
       c.finish.ensures start lines has ∙ ap (λ l. fold sink.step start (map stack_held l)) (sym same),
-      ap (sum_by (λ (r : StackRow). r.count)) same ∙ sums,
+      λ k. ap (sum_of_part (λ (r : StackRow). 0) (λ (r : StackRow). r.count) k) same ∙ sums k,
     )

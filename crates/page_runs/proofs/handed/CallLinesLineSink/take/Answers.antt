@@ -1,6 +1,6 @@
-use Rattle.std.proofs.Common.{sym}
+use Rattle.std.proofs.Common.{sym, refl}
 use Rattle.store_schema.specs.Lines.{call_row}
 use Rattle.page_runs.proofs.handed.CallLinesLineSink.take.Goals as goal
 
 pub returns : goal.returns
-returns g c start lines was = (call_row c.in_ok-line.line, c.in_ok-line.ensures, sym c.get-sum.ensures, c.in_ok-take_line.ensures start.0 start.1 lines was)
+returns g c start lines was = (call_row c.in_ok-line.line, c.in_ok-line.ensures, refl, sym c.get.ensures, c.in_ok-take_line.ensures start.0 start.1 lines was)

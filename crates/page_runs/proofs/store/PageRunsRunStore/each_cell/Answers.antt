@@ -1,10 +1,9 @@
-use Rattle.std.proofs.Common.{refl, sym, ap, subst}
+use Rattle.std.proofs.Common.{refl, sym, subst}
 use Rattle.run_stores.specs.Walks.{CellsFoldTo}
 use Rattle.plain_tables.specs.RunRows.{cells_in}
 use Rattle.plain_tables.specs.Tables.{CellRow}
 use Rattle.store_schema.specs.Tables.{cell_columns}
 use Rattle.page_runs.specs.Shown.{ShowsLines}
-use Rattle.page_runs.specs.declared.run_rows.RunTable.{RunTable}
 use Rattle.page_runs.proofs.Taken.{large_shown}
 use Rattle.page_runs.specs.Kept.{HasGathered}
 use Rattle.page_runs.proofs.States.{asked, asked_keeping, none_told, stays_read}
@@ -15,8 +14,8 @@ returns-clause-told g c faithful t is =
     let sink = g.T.CellSink in
     let start = sink.meaning c.args.sink in
     let made = c.in_ok-table.ensures t is.shows.listed in
-    let root = ap (λ (r : RunTable). r.root) made in
-    let run = ap (λ (r : RunTable). r.run) made in
+    let root = made.root_is in
+    let run = made.run_is in
     let there = subst (λ n. ShowsLines c.args.self.now.file n cell_columns (λ (r : CellRow). r.run) t.cells) (sym root) (large_shown t c.args.self.now is.shows).cells in
     (let both = c.in_ok-taken.ensures.told faithful t there in subst (λ n. CellsFoldTo c.args.events sink.step start (sink.meaning c.in_ok-taken.taken) (cells_in n t)) run both.0)
 
@@ -26,8 +25,8 @@ returns-clause-asks g c =
     asked_keeping _ _ (stays_read _ _ c.each_cell.ensures.reads) refl refl
     (λ clean t is.
     let made = c.in_ok-table.ensures t is.listed in
-    let root = ap (λ (r : RunTable). r.root) made in
-    let run = ap (λ (r : RunTable). r.run) made in
+    let root = made.root_is in
+    let run = made.run_is in
     let there = subst (λ n. ShowsLines store.file n cell_columns (λ (r : CellRow). r.run) t.cells) (sym root) (large_shown t store is).cells in
     c.keep.ensures.kept t is.kept_cells (subst (λ n. HasGathered (cells_in n t) c.in_ok-taken.gathered) run (c.in_ok-taken.ensures.told clean t there).2))
     _ (λ _. c.in_ok-if_usable-2.ensures)

@@ -3,7 +3,6 @@ use Rattle.prof_books.specs.Book.{stacks_held}
 use Rattle.plain_tables.specs.Tables.{StackRow}
 use Rattle.store_schema.specs.Tables.{stack_columns}
 use Rattle.page_runs.specs.Shown.{ShowsLines}
-use Rattle.page_runs.specs.declared.run_rows.RunTable.{RunTable}
 use Rattle.page_runs.proofs.Taken.{large_shown}
 use Rattle.page_runs.proofs.States.{asked, none_told}
 use Rattle.page_runs.proofs.store.PageRunsRunStore.each_stack.Goals as goal
@@ -13,8 +12,8 @@ returns-clause-told g c faithful t is =
     let sink = g.T.StackRowSink in
     let start = sink.meaning c.args.sink in
     let made = (c.in_ok-table.ensures t is.shows.listed).2 in
-    let root = ap (λ (r : RunTable). r.root) made in
-    let run = ap (λ (r : RunTable). r.run) made in
+    let root = made.root_is in
+    let run = made.run_is in
     let there = subst (λ n. ShowsLines c.args.self.now.file n stack_columns (λ (r : StackRow). r.run) t.stacks) (sym root) (large_shown t c.args.self.now is.shows).stacks in
     (let both = c.in_ok-taken.ensures.told faithful t there in both.0 ∙ ap (λ n. fold sink.step start (stacks_held n t)) run)
 

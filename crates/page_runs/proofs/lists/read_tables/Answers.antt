@@ -4,7 +4,7 @@ use Rattle.run_lists.specs.Listed.{coef_row, derived_row, event_row}
 use Rattle.page_runs.proofs.Chains.{◌⊳◌}
 use Rattle.page_runs.proofs.Shows.{shows_after}
 use Rattle.page_runs.specs.Shown.{ShowsRows}
-use Rattle.page_runs.proofs.lists.read_lists.Goals as goal
+use Rattle.page_runs.proofs.lists.read_tables.Goals as goal
 
 pub returns-in_err-runs-clause-reads : goal.returns-in_err-runs-clause-reads
 returns-in_err-runs-clause-reads g c = c.next_run.ensures.reads ⊳ c.all_rows.ensures.reads

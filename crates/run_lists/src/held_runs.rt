@@ -1,0 +1,74 @@
+// Whether lines name runs that are held.
+ghost use Rattle.std.specs.Prelude.{◌≡◌, ◌&&◌, IfErr, OnOk};
+ghost use Rattle.std.specs.List.{list_all};
+ghost use Rattle.std.specs.List.Sorted.{IsNonDecreasing};
+ghost use Rattle.plain_tables.specs.Tables.{Tables};
+ghost use Rattle.run_lists.specs.HeldRuns.{NameHeldRuns, is_one_of, is_none_or_one_of, name_some};
+ghost use Rattle.run_lists.specs.Listed.{AreListed};
+
+use crate::groups::numbers_rise;
+use crate::listed::{ListedGroup, RunLists};
+use crate::numbers::{is_among, numbers_of};
+use crate::run_lines::OfRun;
+use plain_tables::StoreError;
+use std::alloc::Global;
+
+/// Whether each line is of one of these runs, which do not fall.
+fn are_of_runs<L: OfRun>(lines: &[L], runs: &[u32]) -> bool
+    ensures { IsNonDecreasing runs.now → result ≡ list_all (λ line. is_one_of runs.now (L.run_of line)) lines.now }
+{
+    // Most lines are of the same run as the line before.
+    let mut last: Option<u32> = None;
+    for line in lines {
+        let run = line.run();
+        if last == Some(run) {
+            continue;
+        }
+        if !is_among(runs, run) {
+            return false;
+        }
+        last = Some(run);
+    }
+    true
+}
+
+/// Whether each baseline is one of these runs, which do not fall.
+fn are_baselines_of(groups: &[ListedGroup], runs: &[u32]) -> bool
+    ensures { IsNonDecreasing runs.now → result ≡ list_all (λ group. is_none_or_one_of runs.now group.baseline) groups.now }
+{
+    for group in groups {
+        if let Some(run) = group.baseline
+            && !is_among(runs, run)
+        {
+            return false;
+        }
+    }
+    true
+}
+
+/// Whether all lines name some of these runs, which do not fall.
+fn name_runs(lists: &RunLists, runs: &[u32]) -> bool
+    ensures { IsNonDecreasing runs.now → result ≡ name_some runs.now lists.now }
+{
+    are_of_runs(lists.events.all(), runs)
+        && are_of_runs(lists.derived.all(), runs)
+        && are_of_runs(lists.coefs.all(), runs)
+        && are_of_runs(&lists.members, runs)
+        && are_baselines_of(&lists.groups, runs)
+}
+
+impl RunLists {
+    /// Looks whether runs rise, and each line of a run, each member and each baseline names one that is listed. `Store`
+    /// where it is not so, as where one of what is said twice is damaged; `Memory`.
+    pub fn check_runs(&self, alloc: Global) -> Result<(), StoreError>
+        ensures held { (t : Tables) → AreListed t self.now → OnOk result (NameHeldRuns t) }
+        ensures refused { (t : Tables) → AreListed t self.now → NameHeldRuns t → IfErr result (λ e. e ≡ StoreError.Memory) }
+    {
+        let runs = numbers_of(alloc, &self.runs)?;
+        if numbers_rise(&runs) && name_runs(self, &runs) {
+            Ok(())
+        } else {
+            Err(StoreError::Store)
+        }
+    }
+}
