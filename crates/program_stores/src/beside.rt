@@ -1,15 +1,14 @@
 // Reads the store at a path beside others, who may write it meanwhile.
 ghost use Rattle.std.specs.Prelude.{◌≡◌, IfSome};
 
-use crate::patience::{Patience, TRIES};
-use crate::reading::{store_in_pages, work_in_pages};
-use crate::stores::{PAGES_TO_READ, is_no_file, options_for};
+use crate::reading::{PAGES_TO_READ, store_in_pages, work_in_pages};
 use files_to_read::{IfStands, Unopened, open_to_read};
 use plain_tables::StoreError;
 use sessions::Work;
 use sqlite_disk::Unknown;
 use std::rt::HostRuntime;
 use std::{fs, io};
+use store_paths::{Patience, TRIES, is_no_file, options_for};
 
 /// What a work came to over a store that others may write.
 #[derive(Drop)]
