@@ -1,11 +1,10 @@
 -- What the file of a new store holds.
 use Rattle.std.specs.Prelude.{ℕ, List, []}
 use Rattle.sqlite_trees.specs.Tree.{Trees}
-use Rattle.sqlite_wal.specs.Recovery.{Image}
 use Rattle.sqlite.specs.Files.{HoldsDatabase}
 use Rattle.plain_tables.specs.Tables.{new_tables}
 use Rattle.store_schema.specs.Tables.{Holds}
 
--- a database file of these bytes, with no log beside it, has the tables of a new store (of which the kit promises no more than that they are there: `∥ ∥₁`)
+-- a database file of these bytes, with no log beside it, has the tables of a new store; the kit promises no more than that some are there (`∥ ∥₁`)
 abbrev pub IsNewStore : List ℕ → Type 0
 IsNewStore bytes = ∥ ((db : Trees) × HoldsDatabase (record { log = []; db = bytes }) db × Holds new_tables db) ∥₁

@@ -21,11 +21,11 @@ committed creates =
     let rests = creates.made refl in
     subst (λ (d : Database). Holds new_tables d.trees) (sym rests.settled) rests.holds
 
-module _ {D T : Type 0} {g : Ghosts D} where
+module _ {D : Type 0} {g : Ghosts D} where
   copied_new : (old new : Held (FileStore D g)) (files : Files D) → Creates true (file_state old) (file_state new) → IsCopied new files → IsNewStore (image_of g files).db
   copied_new old new files creates copied = ∥∥₁_map copied.seen.alone (λ held. ((file_state new).committed.trees, held, committed creates))
 
-  made_new : (old new : Held (FileStore D g)) (files : Files D) (result : Result T OpenError) (x : T) → result ≡ Ok x
+  made_new : {T : Type 0} (old new : Held (FileStore D g)) (files : Files D) (result : Result T OpenError) (x : T) → result ≡ Ok x
       → (HasCleanDisk (file_state new) → IsReadyIn over_files true result old new) → IsCopied new files → IsNewStore (image_of g files).db
   made_new old new files result x is ready copied =
       copied_new old new files (subst (λ r. IsReadyIn over_files true r old new) is (ready copied.was_clean)) copied
