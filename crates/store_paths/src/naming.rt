@@ -3,6 +3,7 @@
 ghost use Rattle.std.specs.Prelude.{◌≡◌};
 ghost use Rattle.std_io.specs.IoError.{error_kind};
 ghost use Rattle.store_paths.specs.Errors.{unnamed};
+ghost use Rattle.store_paths.specs.NewStores.{is_other};
 
 use crate::errors::error_of_host;
 use crate::new_stores::new_store;
@@ -40,7 +41,7 @@ pub(crate) enum Unmade {
     Stands,
     /// Another command is about to make it, or the file was removed meanwhile.
     Again,
-    /// The file system gives no second names, or somebody else's file has the name beside.
+    /// The file system gives no second names or no locks, or somebody else's file has the name beside.
     NoWay,
     Failed(OpenError),
 }
@@ -113,13 +114,14 @@ fn logs_of(rt: &HostRuntime, path: &str) -> io::Result<Logs> {
     })
 }
 
-/// Whether bytes may become others by what is still to be written: each is the one in its place there, or zero.
-fn could_become(found: &[u8], bytes: &[u8]) -> bool {
-    found.len() <= bytes.len()
-        && found
-            .iter()
-            .zip(bytes)
-            .all(|(found, byte)| *found == 0 || found == byte)
+/// Whether some byte is neither zero nor the one in its place among others, as far as these go.
+fn is_other(found: &[u8], bytes: &[u8]) -> bool
+    ensures { result ≡ is_other found.now bytes.now }
+{
+    found
+        .iter()
+        .zip(bytes)
+        .any(|(found, byte)| *found != 0 && *found != *byte)
 }
 
 /// Whether a file may be one that was begun with these bytes: it has the first of them, or zeros in their place, as a
@@ -132,7 +134,7 @@ fn is_begun(rt: &HostRuntime, file: &File, bytes: &[u8]) -> io::Result<bool> {
     let mut found = Vec::new(rt.alloc());
     found.resize(length as usize, 0)?;
     file.read_exact_at(&mut found, 0)?;
-    Ok(could_become(&found, bytes))
+    Ok(!is_other(&found, bytes))
 }
 
 /// A path at which a new store is to stand, its folder, and the path beside it under which it is made.
@@ -165,15 +167,15 @@ impl<'a> Place<'a> {
     }
 
     /// Takes a file that has the name beside, as SQLite locks a database, so that nobody else removes it: not where
-    /// another has taken it, or it lost its name meanwhile. A command that is stopped lets go of it. No guarantee: as
-    /// above.
-    fn is_taken(&self, file: &File) -> io::Result<bool> {
+    /// another has taken it, or it lost its name meanwhile. A command that is stopped lets go of it. `NoWay` where there
+    /// are no locks. No guarantee: as above.
+    fn is_taken(&self, file: &File) -> Result<bool, Unmade> {
         if os::try_lock_range(file.as_raw_fd(), RangeLock::Exclusive, FIRST_LOCKED, LOCKED) != 0 {
             let error = io::Error::from_raw_os_error(os::errno());
             return if error.kind() == ErrorKind::WouldBlock {
                 Ok(false)
             } else {
-                Err(error)
+                Err(Unmade::NoWay)
             };
         }
         let found = file.metadata()?;
@@ -244,10 +246,9 @@ impl<'a> Place<'a> {
         match self.is_taken(&file) {
             Ok(true) => Ok(file),
             Ok(false) => Err(Unmade::Again),
-            // The file system has no locks, or none are left.
-            Err(_) => {
+            Err(end) => {
                 self.drop_name();
-                Err(Unmade::NoWay)
+                Err(end)
             }
         }
     }
@@ -281,7 +282,7 @@ impl<'a> Place<'a> {
 
 /// Makes a store at a path, whole or not at all, unless something stands there. False where it cannot be made so: a
 /// journal or a log that may say something lies beside the path, or somebody else's file at the path with `-new`; or the
-/// file system gives no file a second name. No guarantee: as above.
+/// file system gives no second names, or no locks. No guarantee: as above.
 pub(crate) fn make_whole_at(
     rt: &HostRuntime,
     path: &str,
