@@ -147,7 +147,7 @@ struct Place<'a> {
 }
 
 impl<'a> Place<'a> {
-    /// No guarantee: as above.
+    /// The place at a path, whose folder may be read. No guarantee: as above.
     fn open(rt: &'a HostRuntime, path: &'a str) -> io::Result<Place<'a>> {
         let folder = match Path::new(path).parent() {
             Some(folder) if !folder.as_str().is_empty() => folder.as_str(),
@@ -200,12 +200,14 @@ impl<'a> Place<'a> {
             Some(_) => return Err(Unmade::NoWay),
             None => return Ok(()),
         }
-        let Ok(file) = OpenOptions::new()
+        let opened = OpenOptions::new()
             .read(true)
             .write(true)
-            .open(self.rt, beside)
-        else {
-            return Err(Unmade::NoWay);
+            .open(self.rt, beside);
+        let file = match opened {
+            Ok(file) => file,
+            Err(error) if error.kind() == ErrorKind::NotFound => return Ok(()),
+            Err(_) => return Err(Unmade::NoWay),
         };
         let is_taken = self.is_taken(&file)?;
         if logs_of(self.rt, beside)? != Logs::None || !is_begun(self.rt, &file, bytes)? {
