@@ -1,9 +1,9 @@
-"""What a disk may hold of files when the power fails, built from what was done to them (a LOG of faults.c with NAMES).
+"""What a disk may hold of files when the power fails, built from what was done to them (a LOG of faults.c).
 
 A file has at each point what was synced of it, and steps since, of which any part may be on the disk: each write whole,
 not at all, or by sectors, front, back or single bytes; each length, the one before, or one between. Where a file grew
-and nothing came, stand zeros, noise, or what it had there earlier. A file whose folder was not synced since it was made
-may have no name.
+and nothing came, stand zeros, noise, or what it had there earlier. Each name may stand, by itself, for what it stood for
+at the last sync of the folder or at any moment since: a file, which may have two names, or none.
 """
 import hashlib
 import itertools
@@ -18,12 +18,22 @@ SINGLE = 12
 
 
 class Part(NamedTuple):
-    """A file at a point: what was synced of it, what was done since, whether its name is on the disk, and what stood in
-    it so far, also behind its end."""
+    """A file at a point: what was synced of it, what was done since, and what stood in it so far, also behind its end."""
     synced: bytes
     steps: tuple
-    is_named: bool
     stale: bytes
+
+
+class Point(NamedTuple):
+    """The files, each under the first name that it had; what each name may stand for on the disk, the last of which it
+    stands for now: a file, or None; and how many answers were given."""
+    parts: dict
+    names: dict
+    answered: int
+
+
+class Same(str):
+    """A further name of a file: the name that it has too."""
 
 
 def now(part):
@@ -75,26 +85,58 @@ def left(rng, part, hows, fill):
     return bytes(data)
 
 
+def files_of(contents, names):
+    """The files that have names: the bytes of each, or the name that it has too."""
+    files, named = {}, {}
+    for name, it in names.items():
+        if it is not None:
+            files[name] = Same(named[it]) if it in named else contents[it]
+            named.setdefault(it, name)
+    return files
+
+
+def files_now(point):
+    """The files as they are."""
+    return files_of({it: now(part) for it, part in point.parts.items()}, {name: may[-1] for name, may in point.names.items()})
+
+
+def changed(point, change):
+    """The parts and names after a change."""
+    what, name, place, _, content, _ = change
+    parts, names = dict(point.parts), dict(point.names)
+    may = names.get(name, (None,))
+    it = may[-1]
+    if what == "make":
+        it = name if name not in parts else f"{name} again {len(parts)}"
+        parts[it], names[name] = Part(b"", (), b""), (*may, it)
+    elif what == "link":
+        names[name] = (*may, names[content.decode()][-1])
+    elif what == "unlink":
+        names[name] = (*may, None)
+    elif what == "folder":
+        names = {name: may[-1:] for name, may in names.items()}
+    elif what == "sync":
+        parts[it] = parts[it]._replace(synced=now(parts[it]), steps=())
+    else:
+        part = parts[it]
+        part = part._replace(steps=(*part.steps, (place, content if what == "write" else None)))
+        data = now(part)
+        parts[it] = part._replace(stale=data + part.stale[len(data):])
+    return point._replace(parts=parts, names=names)
+
+
 def points_of(before, changes, answer=None):
     """The files at each point between changes, with how many answers were given: a change, and bytes that stand in it
     once for each."""
-    parts, answered = {name: Part(data, (), True, data) for name, data in before.items()}, 0
-    points = [(dict(parts), 0)]
-    for what, name, place, _, content, _ in changes:
-        if what in ("print", "send"):
-            answered += content.count(answer[1]) if answer and answer[0] == what else 0
-        elif what == "make":
-            parts[name] = Part(b"", (), False, b"")
-        elif what == "folder":
-            parts = {name: part._replace(is_named=True) for name, part in parts.items()}
-        elif what == "sync":
-            parts[name] = parts[name]._replace(synced=now(parts[name]), steps=())
+    whole = {name: data for name, data in before.items() if not isinstance(data, Same)}
+    points = [Point({name: Part(data, (), data) for name, data in whole.items()},
+                    {name: (str(data) if isinstance(data, Same) else name,) for name, data in before.items()}, 0)]
+    for change in changes:
+        if change[0] in ("print", "send"):
+            more = change[4].count(answer[1]) if answer and answer[0] == change[0] else 0
+            points.append(points[-1]._replace(answered=points[-1].answered + more))
         else:
-            part = parts[name]
-            part = part._replace(steps=(*part.steps, (place, content if what == "write" else None)))
-            data = now(part)
-            parts[name] = part._replace(stale=data + part.stale[len(data):])
-        points.append((dict(parts), answered))
+            points.append(changed(points[-1], change))
     return points
 
 
@@ -135,13 +177,16 @@ def grows(part):
     return any(place + len(content or b"") > least for place, content in part.steps)
 
 
-def choices(rng, parts, count):
-    """All that may be left at a point: what is kept, what stands where a file grew, and which files have no name. What
+def names_left(names):
+    """All that names may stand for; what each stands for now comes first."""
+    return [dict(zip(names, stand)) for stand in itertools.product(*(dict.fromkeys(reversed(may)) for may in names.values()))]
+
+
+def choices(rng, point, count):
+    """All that may be left at a point: what is kept, what stands where a file grew, and what the names stand for. What
     was synced alone comes last."""
-    fills = FILLS if any(map(grows, parts.values())) else FILLS[:1]
-    unnamed = [name for name, part in parts.items() if not part.is_named]
-    absent = [names for size in range(len(unnamed) + 1) for names in itertools.combinations(unnamed, size)]
-    nothing, *found = itertools.product(parts_kept(rng, parts, count), fills, absent)
+    fills = FILLS if any(map(grows, point.parts.values())) else FILLS[:1]
+    nothing, *found = itertools.product(parts_kept(rng, point.parts, count), fills, names_left(point.names))
     rng.shuffle(found)
     return [*found, nothing]
 
@@ -155,28 +200,27 @@ class Image(NamedTuple):
 
 
 def built(rng, number, point, choice):
-    parts, answered = point
-    (what, hows), fill, absent = choice
-    files = {name: left(rng, part, hows[name], fill_of(rng, part, fill))
-             for name, part in parts.items() if name not in absent}
-    lost = tuple(name for name in parts if name in absent or set(hows[name]) - {"keep"})
-    told = "".join(f", no {name}" for name in absent)
-    return Image(f"power fails at {number}, {what}, {fill}{told}", files, lost, answered)
+    (what, hows), fill, names = choice
+    files = files_of({it: left(rng, part, hows[it], fill_of(rng, part, fill)) for it, part in point.parts.items()}, names)
+    lost = tuple(it for it in point.parts if it not in names.values() or set(hows[it]) - {"keep"})
+    told = "".join(f", {name} is {it or 'gone'}" for name, it in names.items() if it != point.names[name][-1])
+    return Image(f"power fails at {number}, {what}, {fill}{told}", files, lost, point.answered)
 
 
 def images(rng, points, count, most):
     """Different images, one of each point in turn: those where an answer was just given come first, and at each point
     what was synced alone."""
-    turns = [(number, point, choices(rng, point[0], count)) for number, point in enumerate(points)]
+    turns = [(number, point, choices(rng, point, count)) for number, point in enumerate(points)]
     rng.shuffle(turns)
-    turns.sort(key=lambda turn: turn[0] == 0 or turn[1][1] == points[turn[0] - 1][1])
+    turns.sort(key=lambda turn: turn[0] == 0 or turn[1].answered == points[turn[0] - 1].answered)
     known, drawn = set(), 0
     while turns:
         for number, point, open_choices in turns:
             while open_choices:
                 image = built(rng, number, point, open_choices.pop())
                 key = hashlib.sha256(repr((image.answered, sorted(
-                    (name, hashlib.sha256(data).digest()) for name, data in image.files.items()))).encode()).digest()
+                    (name, data if isinstance(data, Same) else hashlib.sha256(data).digest())
+                    for name, data in image.files.items()))).encode()).digest()
                 if key not in known:
                     known.add(key)
                     yield image

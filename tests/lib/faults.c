@@ -2,9 +2,9 @@
    tests/by_hand/refuse_each. The variables:
 
    STORE, INPUTS   beginnings of paths: of the files of a store, and of files that are read
-   FAULT           what is to fail: `allocation`, `read` (of a file of INPUTS), `change` (of a file of STORE:
-                   a write, a sync, a cut), `look` (a read of a file of STORE), `receive` (a read of a socket)
-                   or `send` (a write to one)
+   FAULT           what is to fail: `allocation`, `read` (of a file of INPUTS), `change` (of a file of STORE: it is
+                   made, a write, a sync, a cut, a second name, the loss of a name; and a sync of its folder), `look` (a
+                   read of a file of STORE), `receive` (a read of a socket) or `send` (a write to one)
    AT              which of these, counted from 1
    ERROR           how it fails: a number of errno, 0 to kill the program in its place, or -1 for a `send` that takes
                    no byte
@@ -13,8 +13,7 @@
    COUNTS          a file into which is written at the end how many there were of each thing that FAULT names, in turn
    LOG             a file into which each change of a file of STORE is written, what is printed, and what a socket is
                    given; with how many allocations came before
-   NAMES           into LOG is also written where a file of STORE is made (`make`), and where its folder is synced
-                   (`folder`)
+   ROOM            the disk is full when files of STORE have grown by so many bytes
    LOOKS           into LOG is also written where a file of STORE is read (`look`) */
 #define _GNU_SOURCE
 #include <errno.h>
@@ -32,9 +31,9 @@
 enum kind { ALLOCATION, READ, CHANGE, LOOK, RECEIVE, SEND, KINDS };
 
 static const char *const names[KINDS] = {"allocation", "read", "change", "look", "receive", "send"};
-static unsigned long counts[KINDS], at, most;
+static unsigned long counts[KINDS], at, most, room;
 static enum kind failing = KINDS;
-static int error, is_torn, has_names, has_looks, log_file = -1;
+static int error, is_torn, is_small, has_looks, log_file = -1;
 static const char *store, *inputs;
 
 void *__libc_malloc(size_t);
@@ -62,7 +61,8 @@ __attribute__((constructor)) static void begin(void)
     most = number("SHORT");
     error = number("ERROR");
     is_torn = number("TORN");
-    has_names = number("NAMES");
+    is_small = getenv("ROOM") != NULL;
+    room = number("ROOM");
     has_looks = number("LOOKS");
     if (log)
         log_file = open(log, O_WRONLY | O_CREAT | O_TRUNC, 0600);
@@ -100,6 +100,20 @@ static int is_half(void)
     return is_torn && failing == CHANGE && counts[CHANGE] + 1 == at;
 }
 
+/* Whether a path is that of a file of STORE. */
+static int is_stored(const char *path)
+{
+    char folder[4096], whole[8300];
+    if (!store)
+        return 0;
+    if (path[0] == '/')
+        return strncmp(path, store, strlen(store)) == 0;
+    if (!getcwd(folder, sizeof folder))
+        return 0;
+    snprintf(whole, sizeof whole, "%s/%s", folder, path);
+    return strncmp(whole, store, strlen(store)) == 0;
+}
+
 static int has_path(int file, const char *beginning)
 {
     char link[40], path[4096];
@@ -127,19 +141,39 @@ static int is_folder(int file)
 
 /* Writes a change into the log: what it is, of which file, where, how long, how many allocations came before, and the
    bytes. */
-static void keep(const char *what, int file, off_t place, const void *bytes, size_t length)
+static void keep_of(const char *what, const char *path, off_t place, const void *bytes, size_t length)
 {
-    char link[40], path[4096], text[4200];
-    ssize_t found;
+    char text[4200];
     if (log_file < 0)
         return;
-    snprintf(link, sizeof link, "/proc/self/fd/%d", file);
-    found = readlink(link, path, sizeof path - 1);
-    path[found < 0 ? 0 : found] = 0;
     NEXT(write)(log_file, text, snprintf(text, sizeof text, "%s %s %ld %zu %lu\n", what, path, (long)place, length,
                                            counts[ALLOCATION]));
     if (bytes)
         NEXT(write)(log_file, bytes, length);
+}
+
+static void keep(const char *what, int file, off_t place, const void *bytes, size_t length)
+{
+    char link[40], path[4096];
+    ssize_t found;
+    snprintf(link, sizeof link, "/proc/self/fd/%d", file);
+    found = readlink(link, path, sizeof path - 1);
+    path[found < 0 ? 0 : found] = 0;
+    keep_of(what, path, place, bytes, length);
+}
+
+/* How many bytes of a write the disk has room for; a fault, where it is full. Bytes that a file has take no more room. */
+static ssize_t fitting(int file, off64_t place, size_t length)
+{
+    off64_t end = is_small ? lseek64(file, 0, SEEK_END) : 0;
+    size_t grows = place + (off64_t)length > end ? place + length - end : 0;
+    size_t lacks = is_small && grows > room ? grows - room : 0;
+    if (lacks && lacks >= length) {
+        errno = ENOSPC;
+        return -1;
+    }
+    room -= is_small ? grows - lacks : 0;
+    return length - lacks;
 }
 
 /* Whether a read of a file fails that is one of STORE. */
@@ -213,14 +247,40 @@ ssize_t send(int socket, const void *bytes, size_t length, int flags)
 
 int open(const char *path, int flags, ...)
 {
-    int is_new = has_names && (flags & O_CREAT) && access(path, F_OK) != 0, file;
+    int is_new = (flags & O_CREAT) && is_stored(path) && access(path, F_OK) != 0, file;
     va_list rest;
+    if (is_new && fails(CHANGE))
+        return -1;
     va_start(rest, flags);
     file = NEXT(open)(path, flags, flags & (O_CREAT | O_TMPFILE) ? va_arg(rest, mode_t) : 0);
     va_end(rest);
-    if (is_new && file >= 0 && has_path(file, store))
+    if (is_new && file >= 0)
         keep("make", file, 0, NULL, 0);
     return file;
+}
+
+int link(const char *old, const char *new)
+{
+    int is_ours = is_stored(old) && is_stored(new), made;
+    const char *name = strrchr(old, '/');
+    if (is_ours && fails(CHANGE))
+        return -1;
+    made = NEXT(link)(old, new);
+    name = name ? name + 1 : old;
+    if (is_ours && made == 0)
+        keep_of("link", new, 0, name, strlen(name));
+    return made;
+}
+
+int unlink(const char *path)
+{
+    int is_ours = is_stored(path), gone;
+    if (is_ours && fails(CHANGE))
+        return -1;
+    gone = NEXT(unlink)(path);
+    if (is_ours && gone == 0)
+        keep_of("unlink", path, 0, NULL, 0);
+    return gone;
 }
 
 ssize_t pread64(int file, void *bytes, size_t length, off64_t place)
@@ -237,14 +297,18 @@ ssize_t pread(int file, void *bytes, size_t length, off_t place)
 
 ssize_t pwrite64(int file, const void *bytes, size_t length, off64_t place)
 {
+    ssize_t fits = length;
     if (has_path(file, store)) {
         if (is_half())
             NEXT(pwrite64)(file, bytes, length / 2, place);
         if (fails(CHANGE))
             return -1;
-        keep("write", file, place, bytes, length);
+        fits = fitting(file, place, length);
+        if (fits < 0)
+            return -1;
+        keep("write", file, place, bytes, fits);
     }
-    return NEXT(pwrite64)(file, bytes, length, place);
+    return NEXT(pwrite64)(file, bytes, fits, place);
 }
 
 ssize_t pwrite(int file, const void *bytes, size_t length, off_t place)
@@ -254,16 +318,23 @@ ssize_t pwrite(int file, const void *bytes, size_t length, off_t place)
 
 ssize_t write(int file, const void *bytes, size_t length)
 {
+    ssize_t fits = length;
+    off_t place;
     if (has_path(file, store)) {
         if (is_half())
             NEXT(write)(file, bytes, length / 2);
         if (fails(CHANGE))
             return -1;
-        keep("write", file, lseek(file, 0, SEEK_CUR), bytes, length);
+        place = lseek(file, 0, SEEK_CUR);
+        fits = fitting(file, place, length);
+        lseek(file, place, SEEK_SET);
+        if (fits < 0)
+            return -1;
+        keep("write", file, place, bytes, fits);
     } else if (file == STDOUT_FILENO) {
         keep("print", file, 0, bytes, length);
     }
-    return NEXT(write)(file, bytes, length);
+    return NEXT(write)(file, bytes, fits);
 }
 
 int fsync(int file)
@@ -272,7 +343,9 @@ int fsync(int file)
         if (fails(CHANGE))
             return -1;
         keep("sync", file, 0, NULL, 0);
-    } else if (has_names && is_folder(file)) {
+    } else if (is_folder(file)) {
+        if (fails(CHANGE))
+            return -1;
         keep("folder", file, 0, NULL, 0);
     }
     return NEXT(fsync)(file);

@@ -4,13 +4,14 @@ use file_reading::total_file;
 use http_service::Service;
 use prof_store::OpenError;
 use program_stores::{
-    Beside, Patience, StoreInPages, database_at, error_line, is_new_at, pages_at,
-    pages_to_change_at, pages_to_serve_at, ready_in, serve_in_pages, work_beside, work_in_pages,
+    Beside, StoreInPages, pages_at, pages_to_change_at, pages_to_serve_at, serve_in_pages,
+    work_beside, work_in_pages,
 };
 use sessions::{Task, Work, print_total, task_of};
 use std::io;
 use std::process::ExitCode;
 use std::rt::HostRuntime;
+use store_paths::{Patience, error_line, look_at, make_missing_at};
 
 /// Prints the line of a refusal. No guarantee: of what is printed the checker knows nothing.
 pub(crate) fn print_refused<R: Print>(rt: &R, reason: &str) -> io::Result<ExitCode> {
@@ -31,17 +32,8 @@ enum Job<'a> {
     Serve(Service),
 }
 
-/// Makes a store in the database at a path that is to become one, or looks at the one that it holds (`ready_in`), and
-/// closes that: what was committed is copied from the log into the file; where that fails, it stands in the log, and
-/// the next opening finds it there. No guarantee: as `run_over`.
-fn ready_at(rt: &HostRuntime, db: &str, patience: Patience, is_new: bool) -> Result<(), OpenError> {
-    let (found, conn) = ready_in(rt.alloc(), database_at(rt, db, patience)?, is_new);
-    let _closed = conn.close();
-    found
-}
-
-/// Does a job over a store in its pages, and copies what was committed from the log into the file, as `ready_at`
-/// does.
+/// Does a job over a store in its pages, and copies what was committed from the log into the file; where that fails, it
+/// stands in the log, and the next opening finds it there.
 fn change_pages<'a>(rt: &'a HostRuntime, store: StoreInPages, job: Job<'a>) -> io::Result<u8> {
     let (came_to, mut store) = match job {
         Job::Work(work) => {
@@ -90,15 +82,6 @@ fn work_in_pages_at<'a>(
     }
 }
 
-/// Makes a store at a path, unless another command has made it while this one waited for it. No guarantee: as
-/// `run_over`.
-fn make_at(rt: &HostRuntime, db: &str, patience: Patience) -> Result<(), OpenError> {
-    match ready_at(rt, db, patience, true) {
-        Err(OpenError::WrongSchema) if !is_new_at(rt, db)? => Ok(()),
-        made => made,
-    }
-}
-
 /// Does a job over the store at a path, in its pages, with no other beside. What is not plainly ours is looked at in
 /// its database first, which migrates a store of version 1 and says what is wrong with others. No guarantee: as
 /// `run_over`.
@@ -114,7 +97,7 @@ fn work_alone<'a>(
         Err((OpenError::WrongSchema, _)) => return Err(OpenError::WrongSchema),
         Err((_, job)) => job,
     };
-    ready_at(rt, db, patience, false)?;
+    look_at(rt, db, patience)?;
     match work_in_pages_at(rt, db, patience, job) {
         Ok(came_to) => Ok(came_to),
         Err((end, _)) => Err(end),
@@ -125,9 +108,7 @@ fn work_alone<'a>(
 /// be read so. No guarantee: as `run_over`.
 fn work_at<'a>(rt: &'a HostRuntime, db: &str, job: Job<'a>) -> Result<io::Result<u8>, OpenError> {
     let patience = Patience::begin(rt);
-    if is_new_at(rt, db)? {
-        make_at(rt, db, patience)?;
-    }
+    make_missing_at(rt, db, patience)?;
     if let Job::Work(work) = &job {
         match work_beside(rt, db, work, patience) {
             Beside::Done(came_to) => return Ok(came_to),

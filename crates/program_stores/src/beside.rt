@@ -2,9 +2,7 @@
 ghost use Rattle.std.specs.Prelude.{◌≡◌, IfSome};
 ghost use Rattle.read_only_disks.specs.Untouched.{IsUntouched};
 
-use crate::patience::{Patience, TRIES};
-use crate::reading::{close, store_in_pages, work_in_pages};
-use crate::stores::{PAGES_TO_READ, is_no_file, options_for};
+use crate::reading::{PAGES_TO_READ, close, store_in_pages, work_in_pages};
 use files_to_read::{IfStands, Standing, Unopened, open_to_read};
 use page_runs::PageRuns;
 use plain_tables::StoreError;
@@ -14,6 +12,7 @@ use sqlite_pager::Options;
 use std::io::Write;
 use std::rt::HostRuntime;
 use std::{fs, io};
+use store_paths::{Patience, TRIES, is_no_file, options_for};
 
 /// What a work came to over a store that others may write.
 #[derive(Drop)]

@@ -13,8 +13,6 @@ ghost use Rattle.store_histories.specs.Answered.{RepresentsHistory};
 ghost use Rattle.sessions.specs.Sessions.{Wants};
 ghost use Rattle.sessions.specs.Works.{CameTo};
 
-use crate::patience::{Patience, files_at};
-use crate::stores::{CELLS_TO_KEEP, PAGES_TO_CHANGE, PAGES_TO_READ, options_for};
 use http_service::{Service, serve_over};
 use page_runs::PageRuns;
 use plain_tables::StoreError;
@@ -28,6 +26,17 @@ use std::alloc::Global;
 use std::io;
 use std::io::Write;
 use std::rt::{Files, HostRuntime};
+use store_paths::{Patience, files_at, options_for};
+
+/// How many pages are kept in memory where a store is only read: each is read once, and more would only have to be made.
+pub(crate) const PAGES_TO_READ: usize = 100;
+
+/// How many are kept where a store is changed or served, 2 MB, and as many again of those that were written: rows are
+/// appended, but names and their index are written where they fall.
+const PAGES_TO_CHANGE: usize = 500;
+
+/// How many cells of small runs a server keeps in memory, 4 MB.
+const CELLS_TO_KEEP: usize = 65_536;
 
 /// The longest log that is read whole into memory, in bytes: 64 MiB. A longer one is recovered in its file.
 const LONGEST_LOG: usize = 0x400_0000;
@@ -55,7 +64,7 @@ pub fn store_in_pages<D: Disk + Drop, S: Start>(
 }
 
 /// Closes a store. What was committed stands in its files, or in the log.
-pub fn close<D: Disk + Drop>(store: PageRuns<D>) {
+pub(crate) fn close<D: Disk + Drop>(store: PageRuns<D>) {
     drop(store);
 }
 

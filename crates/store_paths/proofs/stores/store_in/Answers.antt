@@ -2,8 +2,8 @@ use Rattle.std.specs.Result.{IfErr}
 use Rattle.std.proofs.Common.{Result, Ok, Err, sym, subst}
 use Rattle.sqlite.specs.Held.{state}
 use Rattle.sqlite.specs.State.{HasCleanDisk}
-use Rattle.program_stores.specs.Stores.{Refuses}
-use Rattle.program_stores.proofs.stores.store_in.Goals as goal
+use Rattle.store_paths.specs.Stores.{Refuses}
+use Rattle.store_paths.proofs.stores.store_in.Goals as goal
 
 both_err : {T E : Type 0} {P Q R : E → Type 0} (r : Result T E) → IfErr r P → IfErr r Q → ((e : E) → P e → Q e → R e) → IfErr r R
 both_err (Ok x) p q f = tt

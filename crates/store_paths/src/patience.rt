@@ -2,7 +2,8 @@
 ghost use Rattle.std.specs.Prelude.{true, false, IsTrue, IfOk};
 ghost use Rattle.sqlite_std_file.specs.File.{file_is_usable, IsFresh};
 
-use crate::stores::{error_of_path, is_no_file};
+use crate::errors::error_of_path;
+use crate::stores::is_no_file;
 use prof_store::OpenError;
 use sqlite::File;
 use sqlite_disk::{Files as DiskFiles, Start, Unknown};
@@ -18,7 +19,7 @@ const MOST_IN_MILLIS: u64 = 2000;
 const PAUSE_IN_MILLIS: u64 = 20;
 
 /// More tries than that time has pauses.
-pub(crate) const TRIES: u32 = 200;
+pub const TRIES: u32 = 200;
 
 /// When a command began: it waits for others some two seconds from then on.
 #[derive(Clone, Copy)]
@@ -35,7 +36,7 @@ impl Patience {
     }
 
     /// Sleeps a little, unless the time is over. No guarantee: as above.
-    pub(crate) fn is_left(&self, rt: &HostRuntime) -> bool {
+    pub fn is_left(&self, rt: &HostRuntime) -> bool {
         let Some(since) = self.since else {
             return false;
         };
@@ -51,7 +52,7 @@ impl Patience {
 
 /// The files of the database at a path, which are made if they are missing, and locked: another who has them open is
 /// waited for. No more is guaranteed: of the files at a path the checker knows nothing.
-pub(crate) fn files_at(
+pub fn files_at(
     rt: &HostRuntime,
     path: &str,
     patience: Patience,

@@ -1,5 +1,5 @@
--- What comes of a database in which a store is wanted, and what is printed where none is opened.
-use Rattle.std.specs.Prelude.{◌≡◌, ◌↔◌, ℕ, Bool, true, false, List, Result, MatchResult, Ok, Err, codes}
+-- What comes of a database in which a store is wanted.
+use Rattle.std.specs.Prelude.{◌≡◌, ◌↔◌, Bool, true, false, Result, MatchResult, Ok, Err}
 use Rattle.sqlite_trees.specs.declared.store.Store.{Ghosts}
 use Rattle.sqlite.specs.Held.{Held, state}
 use Rattle.store_schema.specs.Schema.{empty_schema}
@@ -21,8 +21,3 @@ Refuses g false end old new = IsOpenedBy g old new (Err end) × Opened false (st
 -- a store stands in a database, made or found; or there was none to be had, and all is as it was
 abbrev pub IsReadyIn : {S T : Type 0} → Ghosts S → Bool → Result T OpenError → Held S → Held S → Type 0
 IsReadyIn g is_new result old new = MatchResult result (λ _. TakesUp g is_new old new) (λ end. Refuses g is_new end old new)
-
-abbrev pub store_text : OpenError → List ℕ
-store_text ends.Memory = codes "store: out of memory"
-store_text ends.Store = codes "store: failed"
-store_text ends.WrongSchema = codes "store: wrong schema"

@@ -1,8 +1,8 @@
 use Rattle.std.proofs.Common.{sym, subst}
 use Rattle.sqlite.specs.Held.{state}
 use Rattle.sqlite.specs.State.{HasCleanDisk}
-use Rattle.program_stores.specs.Stores.{TakesUp}
-use Rattle.program_stores.proofs.stores.ready_in.Goals as goal
+use Rattle.store_paths.specs.Stores.{TakesUp}
+use Rattle.store_paths.proofs.stores.ready_in.Goals as goal
 
 pub returns-in-Ok : goal.returns-in-Ok
 returns-in-Ok g c clean =
