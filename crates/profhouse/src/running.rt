@@ -162,6 +162,7 @@ pub(crate) fn run_plan<'a>(rt: &'a HostRuntime, plan: Plan<'a>) -> io::Result<Ex
             db,
             port,
             requests,
+            most_bytes,
             log,
         } => run_over(
             rt,
@@ -169,6 +170,7 @@ pub(crate) fn run_plan<'a>(rt: &'a HostRuntime, plan: Plan<'a>) -> io::Result<Ex
             Job::Serve(Service {
                 port,
                 requests,
+                most: most_bytes as usize,
                 log,
             }),
         ),

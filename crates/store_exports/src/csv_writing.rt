@@ -98,16 +98,18 @@ pub fn csv_sums<S: RunStore>(
     Ok(Ok(sums))
 }
 
-/// Answers the sums of `csv_sums`: a text of CSV, or the refusal. Errors: those of `csv_sums`.
+/// Answers the sums of `csv_sums`: a text of CSV, or the refusal. Errors: those of `csv_sums`. A text of more than `most`
+/// bytes is refused as one that there is no memory for.
 pub fn csv_answer<S: RunStore>(
     store: &mut S,
     alloc: Global,
     selection: &Selection,
+    most: usize,
 ) -> Result<Answer, StoreError>
     ensures { AnswersAsked S.StoreState (λ t. IsCsv t selection.now) (Csv selection.now) result store.old store.new }
 {
     match csv_sums(store, alloc, selection)? {
-        Ok(sums) => Ok(Answer::Text(csv_text(alloc, &sums)?)),
+        Ok(sums) => Ok(Answer::Text(csv_text(alloc, most, &sums)?)),
         Err(refusal) => Ok(Answer::Refused(refusal)),
     }
 }

@@ -1,0 +1,14 @@
+use Rattle.std.proofs.Common.{◌+◌, ◌≤◌, length, ap, subst, ◌∙◌}
+use Rattle.report_texts.specs.Csv.{csv_text}
+use Rattle.cost_exports.proofs.HeldLemmas.{counted_all}
+use Rattle.cost_exports.proofs.csv_texts.csv_length.Goals as goal
+
+pub returns-in-Ok-clause-length : goal.returns-in-Ok-clause-length
+returns-in-Ok-clause-length c =
+    let all = counted_all c.new-text.result (csv_text c.args.sums.now) c.write_csv.new.out c.in-Ok.ensures.whole in
+    c.len.ensures.count ∙ all.0 ∙ ap (λ n. n + length (csv_text c.args.sums.now)) c.new-text.ensures.count
+
+pub returns-in-Ok-clause-short : goal.returns-in-Ok-clause-short
+returns-in-Ok-clause-short c =
+    let all = counted_all c.new-text.result (csv_text c.args.sums.now) c.write_csv.new.out c.in-Ok.ensures.whole in
+    subst (λ n. c.len.result ≤ n) (all.1 ∙ c.new-text.ensures.most) c.len.ensures.short
