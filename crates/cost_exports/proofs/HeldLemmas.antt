@@ -19,3 +19,6 @@ Counts old piece new = (new.count ≡ old.count + length piece) × (new.most ≡
 -- or counted
 pub counted_all : (from : CountedText) (text : List ℕ) (to : CountedText) → HasGone (λ old piece new. (new.count ≡ old.count + length piece) × (new.most ≡ old.most)) from text to → Counts from text to
 counted_all = gone_as Counts Counts (λ held. (omega arith, refl)) (λ a b c x y one more. (let here = one.0 in let later = more.0 in let all = length-append x y in omega (arith, here, later, all), more.1 ∙ one.1))
+
+pub counted_from_none : (from : CountedText) (text : List ℕ) (to : CountedText) → from.count ≡ 0 → HasGone (λ old piece new. (new.count ≡ old.count + length piece) × (new.most ≡ old.most)) from text to → to.count ≡ length text
+counted_from_none from text to none gone = let all = counted_all from text to gone in let count = all.0 in omega (arith, count, none)

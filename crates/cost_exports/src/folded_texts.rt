@@ -21,11 +21,7 @@ fn push_stack(text: &mut Vec<u8>, stack: &[u8], count: u128) -> Result<(), Alloc
 
 /// A line for each stack with its count, the bytes of stacks as they are. A text of more than `most` bytes is refused
 /// as one that there is no memory for; there is no other refusal.
-pub fn folded_text(
-    alloc: Global,
-    most: usize,
-    sums: &StackSums,
-) -> Result<ListVec<u8>, AllocError>
+pub fn folded_text(alloc: Global, most: usize, sums: &StackSums) -> Result<ListVec<u8>, AllocError>
     ensures text { IfOk result (λ text. text ≡ folded_text sums.now) }
     ensures short { IfOk result (λ text. length text ≤ most) }
 {
