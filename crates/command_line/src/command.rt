@@ -9,8 +9,8 @@ ghost use Rattle.command_line.specs.Plans.{AreApart, IsEndFound, IsEndFor};
 use crate::grammar::grammar;
 use crate::plans::{Plan, PlanError};
 use crate::words::{
-    files, is_given, key, less, less_run_and_less_group, limit, most_bytes, port, requests, run, run_and_group,
-    runs, selected, threshold, word,
+    files, is_given, key, less, less_run_and_less_group, limit, most_bytes, port, requests, run,
+    run_and_group, runs, selected, threshold, word,
 };
 use clap::error::ErrorKind;
 use clap::{ArgMatches, Command};
