@@ -23,24 +23,32 @@ module _ {R W S N : Type 0} (contents : W → Option (List ℕ)) where
 
   pub all_printed : (from : Session R W S N) (text : List ℕ) (to : Session R W S N) → HasGone Takes from text to → Takes from text to
   all_printed = gone_as Takes Takes (λ s. (Appends-nil (contents s.out), refl, refl))
-  (λ a b c x y one more. (Appends-trans (contents a.out) (contents b.out) (contents c.out) x y one.0 more.0, more.1 ∙ one.1, more.2 ∙ one.2))
+      (λ a b c x y one more. (Appends-trans (contents a.out) (contents b.out) (contents c.out) x y one.0 more.0, more.1 ∙ one.1, more.2 ∙ one.2))
+
+  -- the last piece was printed in part
+  stopped_at : (from : Session R W S N) (before piece rest text : List ℕ) (between to : Session R W S N) → before ++ (piece ++ rest) ≡ text → Takes from before between → Stops between piece to → Stops from text to
+  stopped_at from before piece rest text between to whole taken stopped =
+      let n = stopped.0.0 in
+      let front = take n piece in
+      let all : (before ++ front) ++ (drop n piece ++ rest) ≡ text = append_assoc before front (drop n piece ++ rest)
+      ∙ ap (λ l. before ++ l) (sym (append_assoc front (drop n piece) rest) ∙ ap (λ l. l ++ rest) (take-append-drop n piece)) ∙ whole in (
+        front_of (contents from.out) (contents to.out) (before ++ front) (drop n piece ++ rest) text all (Appends-trans (contents from.out) (contents between.out) (contents to.out) before front taken.0 stopped.0.1),
+        stopped.1 ∙ taken.1,
+        stopped.2 ∙ taken.2,
+      )
+
+  -- there was no more
+  ended_at : (from : Session R W S N) (before rest text : List ℕ) (between to : Session R W S N) → before ++ rest ≡ text → Takes from before between → to ≡ between → Stops from text to
+  ended_at from before rest text between to whole taken same = (
+    front_of (contents from.out) (contents to.out) before rest text whole (subst (λ (s : Session R W S N). Appends (contents from.out) (contents s.out) before) (sym same) taken.0),
+    ap (λ (s : Session R W S N). s.warehouse) same ∙ taken.1,
+    ap (λ (s : Session R W S N). s.status) same ∙ taken.2,
+  )
 
   pub printed_in_part : (from : Session R W S N) (text : List ℕ) (to : Session R W S N) → HasGoneInPart Takes Stops from text to → Stops from text to
   printed_in_part from text to it =
       let before = all_printed from it.before it.between it.gone in
       elim it.last [
-        | inl same ↦ (
-          front_of (contents from.out) (contents to.out) it.before (it.piece ++ it.rest) text it.whole (subst (λ (s : Session R W S N). Appends (contents from.out) (contents s.out) it.before) (sym same) before.0),
-          ap (λ (s : Session R W S N). s.warehouse) same ∙ before.1,
-          ap (λ (s : Session R W S N). s.status) same ∙ before.2,
-        )
-        | inr stopped ↦ (
-          let front = take stopped.0.0 it.piece in
-          let left = drop stopped.0.0 it.piece in
-          let whole : (it.before ++ front) ++ (left ++ it.rest) ≡ text = append_assoc it.before front (left ++ it.rest)
-          ∙ ap (λ l. it.before ++ l) (sym (append_assoc front left it.rest) ∙ ap (λ l. l ++ it.rest) (take-append-drop stopped.0.0 it.piece)) ∙ it.whole in
-          front_of (contents from.out) (contents to.out) (it.before ++ front) (left ++ it.rest) text whole (Appends-trans (contents from.out) (contents it.between.out) (contents to.out) it.before front before.0 stopped.0.1),
-          stopped.1 ∙ before.1,
-          stopped.2 ∙ before.2,
-        )
+        | inl same ↦ ended_at from it.before (it.piece ++ it.rest) text it.between to it.whole before same
+        | inr stopped ↦ stopped_at from it.before it.piece it.rest text it.between to it.whole before stopped
       ]

@@ -142,7 +142,7 @@ fn text_of_parts<N: NameTable>(
 ) -> Result<ListVec<u8>, StoreError>
     ensures { IfOk result (λ text. IsTextNamed (N.name_rows names.now) (sums_in parts) event.now text) }
 {
-    let sums = parts.named(alloc, names)?;
+    let sums = parts.named(alloc, names, most)?;
     Ok(text_of_sums(alloc, &sums, event, most)?)
 }
 

@@ -104,11 +104,7 @@ fn push_group(text: &mut String, group: &GroupEntry) -> Result<(), AllocError>
 }
 
 /// The groups, a line for each, as long as the text has at most `most` bytes.
-fn groups_text(
-    alloc: Global,
-    groups: &[GroupEntry],
-    most: usize,
-) -> Result<ListVec<u8>, AllocError>
+fn groups_text(alloc: Global, groups: &[GroupEntry], most: usize) -> Result<ListVec<u8>, AllocError>
     ensures { IfOk result (λ text. text ≡ flat_map group_entry_line groups.now) }
 {
     let mut text = String::new(alloc);

@@ -80,8 +80,8 @@ fn text_of_numbers<N: NameTable>(
     ensures { IfOk result (λ text. (all : List NameRow) → AreOf all (N.name_rows names.now)
         → text ≡ difference_text event.now (difference_of firsts.key (named_sums all firsts) (named_sums all seconds))) }
 {
-    let first = firsts.named(alloc, names)?;
-    let second = seconds.named(alloc, names)?;
+    let first = firsts.named(alloc, names, most)?;
+    let second = seconds.named(alloc, names, most)?;
     let text = text_of_sums(alloc, &first, &second, event, most)?;
     Ok(text)
 }

@@ -87,7 +87,9 @@ fn answer<S: RunStore>(
             cut,
         } => by_answer(store, alloc, &selection, key, &event, cut, most),
         Query::Verify(selection) => verify_answer(store, alloc, &selection, most),
-        Query::Inclusive { selection, event } => inclusive_answer(store, alloc, &selection, &event, most),
+        Query::Inclusive { selection, event } => inclusive_answer(
+            store, alloc, &selection, &event, most,
+        ),
         Query::Calls {
             selection,
             side,
@@ -115,10 +117,7 @@ fn answer<S: RunStore>(
 }
 
 /// Refuses a text of more than `most` bytes, as one that there is no memory for.
-fn keep_short(
-    answered: Result<Answer, StoreError>,
-    most: usize,
-) -> Result<Answer, StoreError>
+fn keep_short(answered: Result<Answer, StoreError>, most: usize) -> Result<Answer, StoreError>
     ensures kept { (result ≡ answered) ⊎ (result ≡ Err Memory) }
     ensures short { IfOk result (IsShort most) }
 {
@@ -131,12 +130,7 @@ fn keep_short(
 }
 
 /// Answers a question.
-pub(crate) fn ask_in<S: RunStore>(
-    store: &mut S,
-    alloc: Global,
-    most: usize,
-    query: Query,
-) -> Answer
+pub(crate) fn ask_in<S: RunStore>(store: &mut S, alloc: Global, most: usize, query: Query) -> Answer
     ensures answered { (limits : _) → IsFaithful S.StoreState store.new → Answers S.StoreState limits (Ask query) result store.old store.new }
     ensures found { Tells S.StoreState store.old store.new (λ t. OrFailed (AnswersIn query t) result) }
     ensures short { IsShort most result }
@@ -174,13 +168,14 @@ pub(crate) fn annotate_in<S: RunStore, R: Source>(
 pub(crate) fn csv_in<S: RunStore>(
     store: &mut S,
     alloc: Global,
+    most: usize,
     selection: &Selection,
 ) -> Result<CellSums, Answer>
     ensures answered { (answer : Answer) → IsGivenFor answer result
         → (limits : _) → IsFaithful S.StoreState store.new → Answers S.StoreState limits (Ask (Csv selection.now)) answer store.old store.new }
     ensures found { (answer : Answer) → IsGivenFor answer result → Tells S.StoreState store.old store.new (λ t. OrFailed (AnswersIn (Csv selection.now) t) answer) }
 {
-    match csv_sums(store, alloc, selection) {
+    match csv_sums(store, alloc, selection, most) {
         Ok(Ok(sums)) => Ok(sums),
         Ok(Err(refusal)) => Err(Answer::Refused(refusal)),
         Err(failure) => Err(answer_of(Err(failure))),

@@ -59,7 +59,15 @@ impl<S: RunStore> Warehouse<S> {
             result self.old.store self.new.store }
         ensures found { WasAnnotated S.StoreState R.reads selection event file source.old source.new result self.old.store self.new.store }
     {
-        annotate_in(&mut self.store, alloc, self.most, selection, event, file, source)
+        annotate_in(
+            &mut self.store,
+            alloc,
+            self.most,
+            selection,
+            event,
+            file,
+            source,
+        )
     }
 
     /// Sums up what places cost over the runs of a selection, so that who asks can write their text as it is
@@ -72,7 +80,7 @@ impl<S: RunStore> Warehouse<S> {
         ensures found { (answer : Answer) → IsGivenFor answer result
             → Tells S.StoreState self.old.store self.new.store (λ t. OrFailed (AnswersIn (Csv selection.now) t) answer) }
     {
-        csv_in(&mut self.store, alloc, selection)
+        csv_in(&mut self.store, alloc, self.most, selection)
     }
 
     /// Does what a command says, and answers it. A refused command changes nothing. Over tables that
@@ -107,15 +115,7 @@ impl<S: RunStore> Warehouse<S> {
                 event,
                 file,
                 mut source,
-            } => annotate_in(
-                store,
-                alloc,
-                self.most,
-                selection,
-                event,
-                file,
-                &mut source,
-            ),
+            } => annotate_in(store, alloc, self.most, selection, event, file, &mut source),
         }
     }
 

@@ -19,10 +19,11 @@ impl<S: RunStore> Warehouse<S> {
         ensures limits { result.limits ≡ limits }
         ensures most { result.most ≡ 2 ^ 64 - 1 }
     {
+        let most = usize::MAX;
         Warehouse {
             store,
             limits,
-            most: usize::MAX,
+            most,
         }
     }
 

@@ -1,45 +1,41 @@
-use Rattle.std.proofs.Common.{inl, inr, true, false, [], ◌++◌, length, take, refl, ap, subst, ◌∙◌}
+use Rattle.std.proofs.Common.{inl, inr, ◌++◌, refl, ap, subst}
 use Rattle.report_texts.specs.Csv.{csv_text}
-use Rattle.http_exchange.specs.Responses.{head_text}
-use Rattle.http_exchange.specs.Streams.{WentAs}
+use Rattle.http_exchange.specs.Streams.{IsFront, WentAs, bytes_written}
 use Rattle.http_exchange.specs.declared.statuses.Status.TheVariants.{Okay}
-use Rattle.http_exchange.proofs.Steps.{cut_first}
+use Rattle.http_service.specs.Replies.{IsSentAs}
 use Rattle.http_service.specs.declared.replies.Exchange.TheVariants.{WriteFault}
-use Rattle.http_service.proofs.SendingLemmas.{Went, join, join_short, sent_all, sent_part}
+use Rattle.http_service.specs.declared.sending.Sending.{Sending}
+use Rattle.http_service.proofs.SendingLemmas.{sent_all, sent_as, sent_part}
 use Rattle.http_service.proofs.sending.send_csv.Goals as goal
 
-pub returns-then-not-write_all : goal.returns-then-not-write_all
-returns-then-not-write_all g c =
+pub returns-in-Ok-clause-sent : goal.returns-in-Ok-clause-sent
+returns-in-Ok-clause-sent g c =
     let text = csv_text c.args.sums.now in
-    let head = c.put_head-at.ensures.text ∙ ap (head_text Okay []) c.requires in
-    let one = c.if-not-write_all.ensures in
-    (one.0, one.1, inl (c.code.ensures, cut_first (head_text Okay [] (length text)) text one.0 (subst (λ l. WentAs false l one.0) head one.2)))
+    let from : Sending g.row.T.Denot = record { stream = c.args.stream; head = c.args.head } in
+    let between = c.write_csv-written.new.out in
+    let exchange = c.send_end-exchange.result in
+    let sent = sent_all g.T.Stream.writes from text between c.in-Ok.ensures.whole in
+    let all = sent_as g.T.Stream.writes from text between c.send_end-exchange.new.stream exchange sent c.send_end-exchange.ensures in
+    (all.0, all.1, inl (subst (λ l. IsSentAs Okay (l ++ text) exchange all.0) c.requires all.2))
 
-pub returns-in-Ok : goal.returns-in-Ok
-returns-in-Ok g c =
-    let text = csv_text c.args.sums.now in
-    let front = head_text Okay [] (length text) in
-    let between = c.if-not-write_all.new.stream in
-    let to = c.write_csv-written.new.out.stream in
-    let head = c.put_head-at.ensures.text ∙ ap (head_text Okay []) c.requires in
-    let one = subst (λ l. Went g.T.Stream.writes true c.args.stream l between) head c.if-not-write_all.ensures in
-    let two = sent_all g.T.Stream.writes (record { stream = between }) text c.write_csv-written.new.out c.in-Ok.ensures.whole in
-    let all = join g.T.Stream.writes true c.args.stream between to front text one two in
-    (all.0, all.1, inl (c.code.ensures, all.2))
+pub returns-in-Err-Memory-clause-none : goal.returns-in-Err-Memory-clause-none
+returns-in-Err-Memory-clause-none g c is = ap (λ s. s.stream) (c.in-Err-Memory.ensures.none c.in-Err-Memory.field-0-is)
 
-pub returns : goal.returns
-returns g c =
+pub returns-in-Err-clause-sent : goal.returns-in-Err-clause-sent
+returns-in-Err-clause-sent g c =
     let text = csv_text c.args.sums.now in
-    let front = head_text Okay [] (length text) in
-    let between = c.if-not-write_all.new.stream in
-    let to = c.write_csv-written.new.out.stream in
-    let head = c.put_head-at.ensures.text ∙ ap (head_text Okay []) c.requires in
-    let one = subst (λ l. Went g.T.Stream.writes true c.args.stream l between) head c.if-not-write_all.ensures in
-    elim (sent_part g.T.Stream.writes (record { stream = between }) text c.write_csv-written.new.out c.in-Err.ensures.part) [
-      | inl cut ↦
-          let all = join g.T.Stream.writes false c.args.stream between to front text one cut in
-          (all.0, all.1, inl (c.code.ensures, all.2))
-      | inr short ↦
-          let all = join_short g.T.Stream.writes c.args.stream between to front text one short in
-          (all.0, all.1, inr (inr (record { sums = c.args.sums.now; answer_is = refl; exchange_is = ap WriteFault c.code.ensures; front = all.2; taken = all.3 })))
+    let from : Sending g.row.T.Denot = record { stream = c.args.stream; head = c.args.head } in
+    elim (sent_part g.T.Stream.writes from text c.write_csv-written.new.out c.in-Err.ensures.part) [
+      | inl cut ↦ (cut.0, cut.1, inl (c.code.ensures, subst (λ l. WentAs false (l ++ text) cut.0) c.requires cut.2))
+      | inr short ↦ (
+        short.0,
+        short.1,
+        inr (inr (record {
+          sums = c.args.sums.now;
+          answer_is = refl;
+          exchange_is = ap WriteFault c.code.ensures;
+          front = subst (λ l. IsFront (bytes_written short.0) (l ++ text)) c.requires short.2;
+          taken = short.3;
+        })),
+      )
     ]
