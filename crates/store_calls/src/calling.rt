@@ -96,7 +96,7 @@ fn text_of_calls<S: RunStore>(
 {
     let numbers = numbers_of(alloc, &calls.rows)?;
     let names = store.names_among(alloc, &numbers)?;
-    let sums = sums_named(alloc, &names, *asked, calls)?;
+    let sums = sums_named(alloc, &names, *asked, calls, most)?;
     let text = text_of_sums(alloc, &sums, event, most)?;
     Ok(text)
 }
