@@ -71,6 +71,14 @@ IsShort most (answers.Held n) = Unit {0}
 IsShort most answers.Done = Unit {0}
 IsShort most (answers.Refused refusal) = Unit {0}
 
+-- the same of what is asked; no other command is answered with a text
+abbrev pub IsShortFor : {R : Type 0} → ℕ → commands.Command R → Answer → Type 0
+IsShortFor most (input.Ask query) answer = IsShort most answer
+IsShortFor most (input.Annotate selection event file source) answer = IsShort most answer
+IsShortFor most (input.Import kind label source) answer = Unit {0}
+IsShortFor most (input.Remove n) answer = Unit {0}
+IsShortFor most (input.Group name change) answer = Unit {0}
+
 -- sums are given for their text, or where there is no memory for it for the refusal of that; else the answer is given
 abbrev pub IsGivenFor : Answer → Result (List (EventSpot × ℕ)) Answer → Type 0
 IsGivenFor answer (Ok sums) = (answer ≡ answers.Text (csv_text sums)) ⊎ (answer ≡ answers.Refused reasons.Memory)

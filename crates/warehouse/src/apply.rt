@@ -7,7 +7,7 @@ ghost use Rattle.histories.specs.declared.answers.Answer.{Answer};
 ghost use Rattle.histories.specs.declared.answers.Query.TheVariants.{Csv};
 ghost use Rattle.store_histories.specs.Answered.{Answers};
 ghost use Rattle.store_histories.specs.FromTables.{OrFailed};
-ghost use Rattle.warehouse.specs.Answered.{IsGivenFor, IsShort, WasAnswered, WasAnsweredOver, WasRun};
+ghost use Rattle.warehouse.specs.Answered.{IsGivenFor, IsShort, IsShortFor, WasAnswered, WasAnsweredOver, WasRun};
 ghost use Rattle.warehouse.specs.FromTables.{AnswersIn, IsFoundIn, WasAnnotated, WasImported};
 
 use crate::answering::{annotate_in, ask_in, csv_in, import_in};
@@ -89,7 +89,7 @@ impl<S: RunStore> Warehouse<S> {
     /// that is longer than it may be is refused as one that there is no memory for.
     pub fn apply<R: Source + Drop>(&mut self, alloc: Global, command: Command<R>) -> Answer
         ensures limits { self.new.limits ≡ self.old.limits }
-        ensures short { IsShort self.old.most result }
+        ensures short { IsShortFor self.old.most command result }
         ensures answered { WasAnswered S.StoreState R.reads self.old.limits command result self.old.store self.new.store }
         ensures found { IsFoundIn S.StoreState R.reads self.old.limits command result self.old.store self.new.store }
     {
