@@ -46,7 +46,7 @@ _profhouse()
         subtract) options+=" --run --group --less-run --less-group --event" operands="object file function line thread" ;;
         verify | csv | folded) options+=" --run --group" ;;
         annotate) options+=" --run --group --event --file" operands=files ;;
-        serve) options+=" --port --requests --log" ;;
+        serve) options+=" --port --requests --most-bytes --log" ;;
         help) options='' operands=$commands ;;
         *) return ;;
     esac
@@ -57,7 +57,7 @@ _profhouse()
         --event) held="SELECT CAST(name AS TEXT) FROM run_event UNION SELECT CAST(name AS TEXT) FROM derived" ;;
         --group | --less-group) held="SELECT name FROM grp" ;;
         --run | --less-run) held="SELECT run FROM run" ;;
-        --limit | --threshold | --object | --file | --port | --requests) return ;;
+        --limit | --threshold | --object | --file | --port | --requests | --most-bytes) return ;;
     esac
     if [[ $held ]]; then
         # (compgen -W would run what stands in $(..) in the name of an event)

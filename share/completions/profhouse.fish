@@ -51,6 +51,7 @@ complete -c profhouse -n '__profhouse_command by' -l limit -x -d 'Show at most t
 complete -c profhouse -n '__profhouse_command by' -l threshold -x -d 'Show rows until they make up this percentage of the total, and the rest as one'
 complete -c profhouse -n '__profhouse_command serve' -l port -x -d 'The port of 127.0.0.1; 0 takes a free one'
 complete -c profhouse -n '__profhouse_command serve' -l requests -x -d 'End after this many requests, 1 to 1000000'
+complete -c profhouse -n '__profhouse_command serve' -l most-bytes -x -d 'Refuse an answer of more bytes as out of memory'
 complete -c profhouse -n '__profhouse_command serve' -l log -d 'Write one line on standard error for each served request'
 
 complete -c profhouse -n '__profhouse_command total import annotate' -F

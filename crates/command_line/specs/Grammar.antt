@@ -62,6 +62,10 @@ port = record (option (codes "port")) { parser = Some (Signed (pos 0) (pos 65535
 abbrev pub requests : Rule
 requests = record (option (codes "requests")) { parser = Some (Signed (pos 1) (pos 1000000)); required = true }
 
+-- 256 MiB where it is not given
+abbrev pub most_bytes : Rule
+most_bytes = record (option (codes "most-bytes")) { parser = Some (Signed (pos 1) (pos 4294967295)); defaults = codes "268435456" ∷ [] }
+
 -- one of the words that a parser takes
 abbrev pub key : ValueParser → Rule
 key keys = record (operand (codes "KEY")) { parser = Some keys }
@@ -95,7 +99,7 @@ over_less name = with_rule (with_rule (over_selection name) (run_option (codes "
 
 -- over the requests that come at a port
 abbrev pub over_requests : Text → App
-over_requests name = with_rule (with_rule (over_database name) port) requests
+over_requests name = with_rule (with_rule (with_rule (over_database name) port) requests) most_bytes
 
 abbrev pub total : App
 total = with_rule (new_app (codes "total")) (operand (codes "FILE"))

@@ -23,7 +23,7 @@ use Rattle.command_line.specs.declared.plans.Selected.{Selected}
 use Rattle.command_line.specs.declared.plans.Selected.TheVariants as selected
 use Rattle.command_line.specs.Grammar.{IsCommandLine}
 
--- ---- the numbers of runs and of requests
+-- ---- the numbers of runs, of requests and of bytes
 
 -- a number from 1 to the greatest one
 abbrev pub IsUpTo : ℕ → ℕ → Type 0
@@ -40,6 +40,10 @@ number_of text = digits_value 10 (without_leading_plus text)
 abbrev pub IsRequestCount : ℕ → Type 0
 IsRequestCount n = IsUpTo 1000000 n
 
+-- how many bytes an answer may have
+abbrev pub IsByteCount : ℕ → Type 0
+IsByteCount n = IsUpTo 4294967295 n
+
 -- decimal digits that say such a number
 abbrev pub SaysUpTo : ℕ → Text → Type 0
 SaysUpTo most text = IsNumeral 10 (without_leading_plus text) × IsUpTo most (number_of text)
@@ -55,7 +59,7 @@ IsSoundSelection selected.All = Unit {0}
 IsSoundSelection (selected.Run number) = IsRunNumber number
 IsSoundSelection (selected.Group name) = Unit {0}
 
--- numbers of runs and of requests are in their range, where a list is wanted it has one item at least, and a threshold is one in percent
+-- numbers of runs, of requests and of bytes are in their range, where a list is wanted it has one item at least, and a threshold is one in percent
 abbrev pub IsSound : Plan → Type 0
 IsSound (Import db kind files) = files ≢ []
 IsSound (Remove db numbers) = (numbers ≢ []) × All IsRunNumber numbers
@@ -71,7 +75,7 @@ IsSound (Verify db runs) = IsSoundSelection runs
 IsSound (plans.Annotate db runs event file source) = IsSoundSelection runs
 IsSound (plans.Csv db runs) = IsSoundSelection runs
 IsSound (plans.Folded db runs) = IsSoundSelection runs
-IsSound (plans.Serve db port requests log) = IsRequestCount requests
+IsSound (plans.Serve db port requests most_bytes log) = IsRequestCount requests × IsByteCount most_bytes
 IsSound plan = Unit {0}
 
 -- ---- where a plan has its parts from
@@ -167,9 +171,9 @@ IsPlanOf name rows (plans.Annotate db runs event file source) =
     × HasWord rows (codes "file") file.now × HasWord rows (codes "SOURCE") source.now
 IsPlanOf name rows (plans.Csv db runs) = (name ≡ codes "csv") × HasWord rows (codes "db") db.now × HasSelection rows runs
 IsPlanOf name rows (plans.Folded db runs) = (name ≡ codes "folded") × HasWord rows (codes "db") db.now × HasSelection rows runs
-IsPlanOf name rows (plans.Serve db port requests log) =
+IsPlanOf name rows (plans.Serve db port requests most_bytes log) =
     (name ≡ codes "serve") × HasWord rows (codes "db") db.now × SaysNumber rows (codes "port") port
-    × SaysNumber rows (codes "requests") requests × IsFlag (one_of (codes "log") rows) log
+    × SaysNumber rows (codes "requests") requests × SaysNumber rows (codes "most-bytes") most_bytes × IsFlag (one_of (codes "log") rows) log
 
 -- what is said of a plan for a subcommand
 pub record IsPlanned (name : Text) (rows : List Row) (plan : Plan) : Type 0 where

@@ -9,8 +9,8 @@ ghost use Rattle.command_line.specs.Plans.{AreApart, IsEndFound, IsEndFor};
 use crate::grammar::grammar;
 use crate::plans::{Plan, PlanError};
 use crate::words::{
-    files, is_given, key, less, less_run_and_less_group, limit, port, requests, run, run_and_group,
-    runs, selected, threshold, word,
+    files, is_given, key, less, less_run_and_less_group, limit, most_bytes, port, requests, run,
+    run_and_group, runs, selected, threshold, word,
 };
 use clap::error::ErrorKind;
 use clap::{ArgMatches, Command};
@@ -214,11 +214,13 @@ fn serve<'a>(db: &'a str, words: &ArgMatches<'a>) -> Option<Plan<'a>>
 {
     let port = port(words)?;
     let requests = requests(words)?;
+    let most_bytes = most_bytes(words)?;
     let log = is_given(words, "log");
     Some(Plan::Serve {
         db,
         port,
         requests,
+        most_bytes,
         log,
     })
 }

@@ -18,6 +18,9 @@ pub const LAST_RUN: u32 = 2_147_483_647;
 /// The most requests that are answered before the program ends.
 pub const MOST_REQUESTS: u32 = 1_000_000;
 
+/// The most bytes that an answer may have, where that is said.
+pub const MOST_BYTES: u32 = 4_294_967_295;
+
 /// What a threshold is a part of, in percent.
 pub const MAX_PERCENT: u8 = 100;
 
@@ -174,6 +177,18 @@ fn requests<'a>(alloc: Global) -> Arg<'a>
         .required(true)
 }
 
+/// The option that says how many bytes an answer may have.
+fn most_bytes<'a>(alloc: Global) -> Arg<'a>
+    ensures rule { rule_of result ≡ line.most_bytes }
+    ensures local { result.global ≡ false }
+{
+    let help = "Refuse an answer of more bytes as out of memory";
+    let counts = value_parser!(u32).range(1..=i64::from(MOST_BYTES));
+    option(alloc, "most-bytes", "N", help)
+        .value_parser(counts)
+        .default_value("268435456")
+}
+
 /// The word of a key.
 fn key<'a>(alloc: Global, words: &'a [&'a str]) -> Arg<'a>
     ensures rule { rule_of result ≡ line.key (Names words.entry) }
@@ -308,7 +323,8 @@ fn over_requests<'a>(
 {
     over_database(alloc, name, about, example)?
         .arg(port(alloc))?
-        .arg(requests(alloc))
+        .arg(requests(alloc))?
+        .arg(most_bytes(alloc))
 }
 
 fn total<'a>(alloc: Global) -> Result<Command<'a>, AllocError>

@@ -129,12 +129,13 @@ pub enum Plan<'a> {
         db: &'a str,
         selected: Selected<'a>,
     },
-    /// Answer so many requests over HTTP at a port, each with a line on standard error where `log` is true.
-    /// Port 0 means any that is free.
+    /// Answer so many requests over HTTP at a port, each by at most so many bytes of text, and with a line on standard
+    /// error where `log` is true. Port 0 means any that is free.
     Serve {
         db: &'a str,
         port: u16,
         requests: u32,
+        most_bytes: u32,
         log: bool,
     },
 }

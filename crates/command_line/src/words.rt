@@ -1,11 +1,11 @@
 // What was found of the arguments of a subcommand.
 ghost use Rattle.std.specs.Prelude.{◌≡◌, ◌≢◌, ◌↔◌, ◌≤◌, true, [], All, map, codes, Some, None, IfOk, IfSome, IsSome};
 ghost use Rattle.clap.specs.Words.{all_of, first_of, found_of, one_of, rows_of};
-ghost use Rattle.command_line.specs.Plans.{IsRequestCount, IsRunNumber, IsSoundSelection, SaysRun, SaysUpTo, number_of, key_word};
+ghost use Rattle.command_line.specs.Plans.{IsByteCount, IsRequestCount, IsRunNumber, IsSoundSelection, SaysRun, SaysUpTo, number_of, key_word};
 ghost use Rattle.command_line.specs.Plans.{HasWord, HasNumber, HasRun, HaveRuns, IsFlag, NamesBoth, SaysNumber};
 ghost use Rattle.command_line.specs.Plans.{HasSelection, HasSelectionBy, HasLess};
 
-use crate::grammar::{LAST_RUN, MAX_PERCENT, MOST_REQUESTS};
+use crate::grammar::{LAST_RUN, MAX_PERCENT, MOST_BYTES, MOST_REQUESTS};
 use crate::plans::Selected;
 use cg_text::ListVec;
 use clap::ArgMatches;
@@ -192,6 +192,14 @@ pub fn requests(words: &ArgMatches<'_>) -> Option<u32>
     ensures number { IfSome result (SaysNumber (rows_of (found_of words.now)) (codes "requests")) }
 {
     number_up_to(word(words, "requests")?, MOST_REQUESTS)
+}
+
+/// How many bytes an answer may have.
+pub fn most_bytes(words: &ArgMatches<'_>) -> Option<u32>
+    ensures range { IfSome result IsByteCount }
+    ensures number { IfSome result (SaysNumber (rows_of (found_of words.now)) (codes "most-bytes")) }
+{
+    number_up_to(word(words, "most-bytes")?, MOST_BYTES)
 }
 
 /// The key that was named.

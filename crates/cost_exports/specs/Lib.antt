@@ -1,3 +1,4 @@
 pub mod Pieces
 pub mod ReadBack
+pub mod Sinks
 pub mod Views

@@ -1,5 +1,5 @@
 // The text of a source with what its lines cost.
-ghost use Rattle.std.specs.Prelude.{◌≡◌, ◌+◌, ◌++◌, length, OnOk, IfOk};
+ghost use Rattle.std.specs.Prelude.{◌≡◌, ◌+◌, ◌++◌, ◌≤◌, length, OnOk, IfOk};
 ghost use Rattle.cg_text.specs.Lines.{lines_of, numbered};
 ghost use Rattle.report_texts.specs.Annotations.{annotation_head, annotation_of, annotation_text, line_cost, outside_cost, source_line, source_line_text, source_lines, source_text, sum_line};
 
@@ -7,6 +7,7 @@ use crate::line_sums::LineSums;
 use crate::numbers::push_number;
 use byte_io::push_escaped;
 use cg_text::{Lines, ListVec, strip_carriage_return};
+use cost_reports::{check_length, whole_text};
 use std::alloc::{AllocError, Global};
 
 /// Adds what a line cost: a dot where it is 0.
@@ -42,14 +43,20 @@ fn push_line(
 }
 
 /// Adds the lines of the source, and gives what is left of the total: what lines cost that it does not
-/// have.
-fn push_lines(text: &mut Vec<u8>, sums: &LineSums, source: &[u8]) -> Result<u128, AllocError>
+/// have. It goes on as long as the text has at most `most` bytes.
+fn push_lines(
+    text: &mut Vec<u8>,
+    sums: &LineSums,
+    source: &[u8],
+    most: usize,
+) -> Result<u128, AllocError>
     ensures text { OnOk result (text.new.items ≡ text.old.items ++ source_text (source_lines sums.now.costs (numbered 1 (lines_of source.now)))) }
     ensures outside { IfOk result (λ outside. outside ≡ outside_cost (length (lines_of source.now)) sums.now.costs) }
 {
     let mut left = sums.total();
     for (number, line) in Lines::new(source) {
         left -= push_line(text, sums, number, line)?;
+        check_length(text.len(), most)?;
     }
     Ok(left)
 }
@@ -78,19 +85,22 @@ fn push_head(text: &mut Vec<u8>, file: &[u8], event: &[u8]) -> Result<(), AllocE
 }
 
 /// The lines of a file's source, each with what it cost in an event, and what line 0 and lines after the
-/// end cost. A source is any bytes; its lines may be of any length. Memory is the only refusal.
+/// end cost. A source is any bytes; its lines may be of any length. A text of more than `most` bytes is refused as one
+/// that there is no memory for; there is no other refusal.
 pub fn annotate(
     alloc: Global,
+    most: usize,
     sums: &LineSums,
     event: &[u8],
     source: &[u8],
 ) -> Result<ListVec<u8>, AllocError>
-    ensures { IfOk result (λ text. text ≡ annotation_text event.now (annotation_of sums.now.file source.now sums.now.costs)) }
+    ensures text { IfOk result (λ text. text ≡ annotation_text event.now (annotation_of sums.now.file source.now sums.now.costs)) }
+    ensures short { IfOk result (λ text. length text ≤ most) }
 {
     let mut text = Vec::new(alloc);
     push_head(&mut text, sums.file(), event)?;
     push_sum(&mut text, sums.total(), b"total")?;
-    let outside = push_lines(&mut text, sums, source)?;
+    let outside = push_lines(&mut text, sums, source, most)?;
     push_sum(&mut text, outside, b"(outside)")?;
-    Ok(ListVec::from_vec(text))
+    whole_text(text, most)
 }

@@ -68,8 +68,9 @@ impl Model for CellSums {
 }
 
 impl CellSums {
-    /// No cell was added. Takes no memory.
-    pub fn new(alloc: Global) -> CellSums
+    /// No cell was added. Once the names of places have more than `most` bytes, so has the text of the sums: then a cell
+    /// is refused as one that there is no memory for. Takes no memory.
+    pub fn new(alloc: Global, most: usize) -> CellSums
         ensures { result ≡ [] }
     {
         CellSums {
@@ -77,7 +78,7 @@ impl CellSums {
             names: HeldNames::new(alloc),
             recent: None,
             line: HeldLine::new(alloc),
-            places: Places::new(alloc),
+            places: Places::new(alloc, most),
             total: 0,
         }
     }

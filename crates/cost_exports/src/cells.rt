@@ -54,6 +54,12 @@ impl HeldNames {
         Ok(())
     }
 
+    /// How many bytes they have. No guarantee: it says how much memory they take.
+    pub(crate) fn bytes(&self) -> usize {
+        let places = self.object.len().saturating_add(self.file.len());
+        places.saturating_add(self.function.len())
+    }
+
     /// The same once more.
     pub(crate) fn copy(&self, alloc: Global) -> Result<HeldNames, AllocError>
         ensures { IfOk result (λ names. held_names names ≡ held_names self.now) }

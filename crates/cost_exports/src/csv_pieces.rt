@@ -1,12 +1,13 @@
 // A text of rows that is written in pieces.
-ghost use Rattle.std.specs.Prelude.{◌≡◌, ℕ, [], List, Option, false, IfOk, MatchResult};
+ghost use Rattle.std.specs.Prelude.{◌≡◌, ℕ, [], List, false, IfOk, MatchResult};
 ghost use Rattle.cost_exports.specs.Pieces.{IsCut, IsOn, IsOut};
+ghost use Rattle.cost_exports.specs.Views.{HasWritten};
 ghost use Rattle.cost_exports.specs.declared.csv_pieces.Unwritten.TheVariants.{Memory};
 
-use byte_io::write_text;
+use crate::text_sinks::TextSink;
 use csv::{Writer, WriterBuilder};
 use std::alloc::{AllocError, Global};
-use std::io::{ErrorKind, Write};
+use std::io::ErrorKind;
 use std::{io, mem};
 
 /// From how many bytes on a piece is handed on.
@@ -19,9 +20,9 @@ const ROOM: usize = PIECE + 32_768;
 /// Why a text was not written whole.
 #[derive(Drop)]
 pub enum Unwritten {
-    /// There was no memory, and nothing is written.
+    /// There was no memory, and the sink was given nothing.
     Memory,
-    /// A write failed, or there was no memory for more.
+    /// The sink stopped, or there was no memory for more.
     Failed(io::Error),
 }
 
@@ -56,7 +57,7 @@ pub(crate) struct Pieces {
 impl Pieces {
     /// No row, with the room of a piece.
     pub(crate) fn new(alloc: Global) -> Result<Pieces, AllocError>
-        ensures { IfOk result (λ pieces. (known : Option (List ℕ)) → IsOn known pieces known []) }
+        ensures { IfOk result (λ pieces. HasWritten pieces.rows []) }
     {
         let room = Vec::with_capacity(alloc, ROOM)?;
         Ok(Pieces {
@@ -80,15 +81,19 @@ impl Pieces {
     }
 
     /// Writes the rows that are gathered, and gathers those that follow in their room.
-    pub(crate) fn hand_on<W: Write>(&mut self, alloc: Global, out: &mut W) -> Result<(), Unwritten>
-        ensures { (from : Option (List ℕ)) (text : List ℕ) → IsOn from self.old (W.contents out.old) text
-            → MatchResult result (λ done. IsOut from self.new (W.contents out.new) text) (λ e. IsCut from self.new (W.contents out.new) text) }
+    pub(crate) fn hand_on<W: TextSink>(
+        &mut self,
+        alloc: Global,
+        out: &mut W,
+    ) -> Result<(), Unwritten>
+        ensures { (from : _) (text : List ℕ) → IsOn W.takes from self.old out.old text
+            → MatchResult result (λ done. IsOut W.takes from self.new out.new text) (λ e. IsCut W.takes W.stops from self.new out.new text) }
     {
         let Ok(mut room) = self.take(alloc).into_inner() else {
             return Err(Unwritten::Memory);
         };
         self.begun = true;
-        if let Err(error) = write_text(out, room.as_slice()) {
+        if let Err(error) = out.take_piece(room.as_slice()) {
             return Err(Unwritten::Failed(error));
         }
         room.clear();

@@ -13,6 +13,8 @@ mod cell_sums;
 mod csv_pieces;
 // And what is written (report_texts/specs/Csv.antt).
 mod csv_texts;
+// Texts that are held, or whose bytes are counted alone, up to a length.
+mod held_texts;
 // The text of stacks (report_texts/specs/Folded.antt).
 mod folded_texts;
 // Laws: what exports sum to, from rows to records, and that the folded one reads back.
@@ -27,11 +29,13 @@ mod numbers;
 mod places;
 // Stacks with their counts (report_texts/specs/Folded.antt).
 mod stack_sums;
+// The trait of what takes a text (specs/Sinks.antt).
+mod text_sinks;
 
 pub use annotations::annotate;
 pub use cell_sums::CellSums;
 pub use csv_pieces::Unwritten;
-pub use csv_texts::{csv_text, write_csv};
+pub use csv_texts::{csv_length, csv_text, write_csv};
 pub use folded_texts::folded_text;
 pub use laws::{
     annotations_sum_to_the_records, csv_rows_sum_to_the_records, csv_texts_read_back,
@@ -40,3 +44,4 @@ pub use laws::{
 };
 pub use line_sums::LineSums;
 pub use stack_sums::StackSums;
+pub use text_sinks::TextSink;

@@ -20,6 +20,8 @@ use std::marker::Model;
 pub(crate) struct Places {
     slots: BTreeMap<HeldNames, usize>,
     lines: Vec<LineCosts>,
+    /// How many bytes more the names of places may have.
+    room: usize,
 }
 
 impl Model for Places {
@@ -50,13 +52,14 @@ fn add_in(
 }
 
 impl Places {
-    /// There are no places. Takes no memory.
-    pub(crate) fn new(alloc: Global) -> Places
+    /// There are no places; their names may have so many bytes. Takes no memory.
+    pub(crate) fn new(alloc: Global, room: usize) -> Places
         ensures { sums_in result ≡ [] }
     {
         Places {
             slots: BTreeMap::new(alloc),
             lines: Vec::new(alloc),
+            room,
         }
     }
 
@@ -95,6 +98,18 @@ impl Places {
         Ok(slot)
     }
 
+    /// Takes the room for the names of a place.
+    fn take_room(&mut self, names: &HeldNames) -> Result<(), AllocError>
+        ensures { self.new ≡ self.old }
+    {
+        let bytes = names.bytes();
+        if bytes > self.room {
+            return Err(AllocError);
+        }
+        self.room -= bytes;
+        Ok(())
+    }
+
     /// The slot of some names; they get one if they have none. The sums stay as they are.
     pub(crate) fn slot(&mut self, alloc: Global, names: &HeldNames) -> Result<usize, AllocError>
         ensures slot { IfOk result (λ slot. slot_of (held_names names.now) self.new.slots ≡ Some slot) }
@@ -102,7 +117,10 @@ impl Places {
     {
         match self.find(names) {
             Some(slot) => Ok(slot),
-            None => self.put(alloc, names),
+            None => {
+                self.take_room(names)?;
+                self.put(alloc, names)
+            }
         }
     }
 

@@ -51,19 +51,21 @@ fn is_function(place: &HeldPlace, object: &[u8], function: &[u8]) -> bool
 }
 
 impl CallSums {
-    /// Of the calls to a function, or from it; no row was added.
+    /// Of the calls to a function, or from it; no row was added. Once the names of the functions on the other side have
+    /// more than `most` bytes, so has the text of the sums: then a row is refused as one that there is no memory for.
     pub fn new(
         alloc: Global,
         side: CallSide,
         object: &[u8],
         function: &[u8],
+        most: usize,
     ) -> Result<CallSums, AllocError>
         ensures { IfOk result (λ calls. calls ≡ record { side = side; function = function_spot object.now function.now; sums = [] }) }
     {
         Ok(CallSums {
             side,
             function: held_function(alloc, object, function)?,
-            sums: PairSums::new(alloc),
+            sums: PairSums::new(alloc, most),
         })
     }
 

@@ -1,10 +1,11 @@
 // The text of a report of calls.
-ghost use Rattle.std.specs.Prelude.{◌≡◌, ◌++◌, OnOk, IfOk, codes};
+ghost use Rattle.std.specs.Prelude.{◌≡◌, ◌++◌, ◌≤◌, OnOk, IfOk, codes, length};
 ghost use Rattle.report_texts.specs.Calls.{side_name, pair_text, call_line, call_row_text, call_lines, call_head, call_report_text};
 ghost use Rattle.cost_reports.specs.Rows.{lent_place, plain_call, plain_calls};
 
 use crate::call_reports::CallReport;
 use crate::key_texts::push_part;
+use crate::lengths::{check_length, whole_text};
 use crate::numbers::push_number;
 use crate::places::LentPlace;
 use crate::rows::CallRow;
@@ -58,12 +59,13 @@ fn push_row(text: &mut Vec<u8>, row: &CallRow<'_>) -> Result<(), AllocError>
     Ok(())
 }
 
-/// Adds the lines of rows.
-fn push_rows(text: &mut Vec<u8>, rows: &[CallRow<'_>]) -> Result<(), AllocError>
+/// Adds the lines of rows, as long as the text has at most `most` bytes.
+fn push_rows(text: &mut Vec<u8>, rows: &[CallRow<'_>], most: usize) -> Result<(), AllocError>
     ensures { OnOk result (text.new.items ≡ text.old.items ++ call_lines (plain_calls rows.now)) }
 {
     for row in rows {
         push_row(text, row)?;
+        check_length(text.len(), most)?;
     }
     Ok(())
 }
@@ -87,14 +89,15 @@ fn push_head(
 }
 
 impl CallReport<'_> {
-    /// The lines of the calls of an event.
-    pub fn text(&self, alloc: Global, event: &[u8]) -> Result<ListVec<u8>, AllocError>
-        ensures { IfOk result (λ text. text ≡ call_report_text event.now self.now) }
+    /// The lines of the calls of an event, of at most `most` bytes, as `Report::text`.
+    pub fn text(&self, alloc: Global, most: usize, event: &[u8]) -> Result<ListVec<u8>, AllocError>
+        ensures text { IfOk result (λ text. text ≡ call_report_text event.now self.now) }
+        ensures short { IfOk result (λ text. length text ≤ most) }
     {
         let mut text = Vec::new(alloc);
         push_head(&mut text, self.side, event, &self.function)?;
         push_total(&mut text, self.total)?;
-        push_rows(&mut text, &self.rows)?;
-        Ok(ListVec::from_vec(text))
+        push_rows(&mut text, &self.rows, most)?;
+        whole_text(text, most)
     }
 }

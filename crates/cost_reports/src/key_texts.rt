@@ -1,10 +1,11 @@
 // The text of a report by key.
-ghost use Rattle.std.specs.Prelude.{◌≡◌, ◌++◌, ◌<◌, ◌^◌, OnOk, IfOk};
+ghost use Rattle.std.specs.Prelude.{◌≡◌, ◌++◌, ◌<◌, ◌≤◌, ◌^◌, OnOk, IfOk, length};
 ghost use Rattle.cost_rows.specs.KeySums.{total_of};
 ghost use Rattle.report_texts.specs.KeyTexts.{key_name, part_text, cost_text, cost_line, row_text, rows_text, head_text, key_report_text};
 ghost use Rattle.cost_reports.specs.Rows.{lent_place, plain_row, plain_rows};
 
 use crate::key_reports::Report;
+use crate::lengths::{check_length, whole_text};
 use crate::numbers::push_number;
 use crate::percents::push_percent;
 use crate::places::LentPlace;
@@ -92,18 +93,20 @@ fn push_row(text: &mut Vec<u8>, key: Key, total: u128, row: &Row<'_>) -> Result<
     Ok(())
 }
 
-/// Adds the lines of rows.
+/// Adds the lines of rows, as long as the text has at most `most` bytes.
 pub(crate) fn push_rows(
     text: &mut Vec<u8>,
     key: Key,
     total: u128,
     rows: &[Row<'_>],
+    most: usize,
 ) -> Result<(), AllocError>
     requires { total_of (plain_rows rows.now) < 2 ^ 112 }
     ensures { OnOk result (text.new.items ≡ text.old.items ++ rows_text key total (plain_rows rows.now)) }
 {
     for row in rows {
         push_row(text, key, total, row)?;
+        check_length(text.len(), most)?;
     }
     Ok(())
 }
@@ -121,15 +124,17 @@ fn push_head(text: &mut Vec<u8>, key: Key, event: &[u8]) -> Result<(), AllocErro
 }
 
 impl Report<'_> {
-    /// The lines of the report of an event.
-    pub fn text(&self, alloc: Global, event: &[u8]) -> Result<ListVec<u8>, AllocError>
-        ensures { IfOk result (λ text. text ≡ key_report_text event.now self.now) }
+    /// The lines of the report of an event. A text of more than `most` bytes is refused as one that there is no memory
+    /// for.
+    pub fn text(&self, alloc: Global, most: usize, event: &[u8]) -> Result<ListVec<u8>, AllocError>
+        ensures text { IfOk result (λ text. text ≡ key_report_text event.now self.now) }
+        ensures short { IfOk result (λ text. length text ≤ most) }
     {
         let mut text = Vec::new(alloc);
         push_head(&mut text, self.key, event)?;
         push_sum(&mut text, self.total, self.total, b"total")?;
-        push_rows(&mut text, self.key, self.total, &self.rows)?;
+        push_rows(&mut text, self.key, self.total, &self.rows, most)?;
         push_sum(&mut text, self.rest, self.total, b"(rest)")?;
-        Ok(ListVec::from_vec(text))
+        whole_text(text, most)
     }
 }

@@ -20,6 +20,8 @@ mod inclusives;
 mod key_reports;
 // The text of a report by key (report_texts/specs/KeyTexts.antt).
 mod key_texts;
+// How long a text may be.
+mod lengths;
 // Laws: what reports sum to, from the rows of runs to the records of their files.
 mod laws;
 // What is printed of a number.
@@ -52,5 +54,6 @@ pub use laws::{
     equal_costs_have_equal_sums, inclusive_costs_are_those_of_each_function,
     inclusive_costs_sum_to_the_records, shown_and_rest_are_the_total, the_fewest_rows_are_shown,
 };
+pub use lengths::{check_length, whole_text};
 pub use report_texts::{CallSide, Cut};
 pub use verifying::{Verification, verify};

@@ -13,12 +13,14 @@ use std::collections::BTreeMap;
 use std::collections::btree_map::Iter;
 use std::marker::Model;
 
-/// Merges a pair into the sums of its place. A refusal leaves the sums as they were.
+/// Merges a pair into the sums of its place; a new one has names of at most `room` bytes. A refusal leaves the sums as
+/// they were.
 fn merge_pair(
     alloc: Global,
     sums: &mut BTreeMap<HeldPlace, Pair>,
     place: &HeldPlace,
     pair: Pair,
+    room: usize,
 ) -> Result<(), AllocError>
     requires first { firsts_of (held_pairs sums.old.entries) + pair.first < 2 ^ 128 }
     requires second { seconds_of (held_pairs sums.old.entries) + pair.second < 2 ^ 128 }
@@ -29,6 +31,9 @@ fn merge_pair(
     match sums.get_mut(place) {
         Some(sum) => *sum = plus(*sum, pair),
         None => {
+            if place.bytes() > room {
+                return Err(AllocError);
+            }
             let place = place.copy(alloc)?;
             sums.insert(place, pair)?;
         }
@@ -44,6 +49,8 @@ pub(crate) struct PairSums {
     recent: HeldPlace,
     sums: BTreeMap<HeldPlace, Pair>,
     total: Pair,
+    /// How many bytes more the names of places may have.
+    room: usize,
     ghost is_total: { total ≡ pair_total (held_pairs sums.entries) },
     ghost small: { AreBelow total.first total.second },
 }
@@ -60,8 +67,8 @@ impl Model for PairSums {
 }
 
 impl PairSums {
-    /// Nothing was added. Takes no memory.
-    pub(crate) fn new(alloc: Global) -> PairSums
+    /// Nothing was added; the names of places may have so many bytes. Takes no memory.
+    pub(crate) fn new(alloc: Global, room: usize) -> PairSums
         ensures { result ≡ [] }
     {
         PairSums {
@@ -72,6 +79,7 @@ impl PairSums {
                 first: 0,
                 second: 0,
             },
+            room,
         }
     }
 
@@ -98,8 +106,12 @@ impl PairSums {
         ensures err { OnErr result (self.new ≡ self.old) }
     {
         self.recent.set(place)?;
-        merge_pair(self.alloc, &mut self.sums, &self.recent, pair)?;
+        let count = self.sums.len();
+        merge_pair(self.alloc, &mut self.sums, &self.recent, pair, self.room)?;
         self.total = plus(self.total, pair);
+        if self.sums.len() > count {
+            self.room = self.room.saturating_sub(self.recent.bytes());
+        }
         Ok(())
     }
 

@@ -78,6 +78,12 @@ impl HeldPlace {
         }
     }
 
+    /// How many bytes its names have. No guarantee: it says how much memory they take.
+    pub(crate) fn bytes(&self) -> usize {
+        let places = self.object.len().saturating_add(self.file.len());
+        places.saturating_add(self.function.len())
+    }
+
     /// Becomes a place that is lent.
     pub(crate) fn set(&mut self, place: &LentPlace<'_>) -> Result<(), AllocError>
         ensures { OnOk result (held_place self.new ≡ lent_place place.now) }

@@ -1,8 +1,9 @@
 // The sums of a run's events beside the totals that its file states.
-ghost use Rattle.std.specs.Prelude.{◌≡◌, ◌++◌, OnOk, IfOk, map};
+ghost use Rattle.std.specs.Prelude.{◌≡◌, ◌++◌, ◌≤◌, OnOk, IfOk, length, map};
 ghost use Rattle.report_texts.specs.Verifying.{stated_in, checks_from, verified, verdict, event_text, sum_text, check_line, check_lines, verify_text};
 ghost use Rattle.cost_reports.specs.Rows.{plain_check};
 
+use crate::lengths::{check_length, whole_text};
 use crate::numbers::push_number;
 use byte_io::push_escaped;
 use cg_formulas::FileHead;
@@ -129,30 +130,37 @@ fn push_check(text: &mut Vec<u8>, run: u32, check: &Check<'_>) -> Result<(), All
     Ok(())
 }
 
-/// Adds the lines of checks.
-fn push_checks(text: &mut Vec<u8>, run: u32, checks: &[Check<'_>]) -> Result<(), AllocError>
+/// Adds the lines of checks, as long as the text has at most `most` bytes.
+fn push_checks(
+    text: &mut Vec<u8>,
+    run: u32,
+    checks: &[Check<'_>],
+    most: usize,
+) -> Result<(), AllocError>
     ensures { OnOk result (text.new.items ≡ text.old.items ++ check_lines run (map plain_check checks.now)) }
 {
     for check in checks {
         push_check(text, run, check)?;
+        check_length(text.len(), most)?;
     }
     Ok(())
 }
 
 impl Verification<'_> {
-    /// Adds a line for each event to those of other runs.
-    pub fn push_text(&self, text: &mut Vec<u8>) -> Result<(), AllocError>
+    /// Adds a line for each event to those of other runs, as long as the text has at most `most` bytes.
+    pub fn push_text(&self, text: &mut Vec<u8>, most: usize) -> Result<(), AllocError>
         ensures { OnOk result (text.new.items ≡ text.old.items ++ verify_text self.now) }
     {
-        push_checks(text, self.run, &self.checks)
+        push_checks(text, self.run, &self.checks, most)
     }
 
-    /// A line for each event.
-    pub fn text(&self, alloc: Global) -> Result<ListVec<u8>, AllocError>
-        ensures { IfOk result (λ text. text ≡ verify_text self.now) }
+    /// A line for each event, of at most `most` bytes, as `Report::text`.
+    pub fn text(&self, alloc: Global, most: usize) -> Result<ListVec<u8>, AllocError>
+        ensures text { IfOk result (λ text. text ≡ verify_text self.now) }
+        ensures short { IfOk result (λ text. length text ≤ most) }
     {
         let mut text = Vec::new(alloc);
-        self.push_text(&mut text)?;
-        Ok(ListVec::from_vec(text))
+        self.push_text(&mut text, most)?;
+        whole_text(text, most)
     }
 }

@@ -1,5 +1,6 @@
 mod Examples
 pub mod Heads
+pub mod SendingLemmas
 pub mod Served
 pub mod ServedStores
 pub mod StepsTo

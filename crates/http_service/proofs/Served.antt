@@ -1,10 +1,11 @@
 -- Requests that were served, one after another.
-use Rattle.std.proofs.Common.{◌≡◌, inl, inr, ℕ, ◌+◌, ◌≤◌, List, [], ◌∷◌, ◌++◌, length, Result, refl, sym, subst, arith}
+use Rattle.std.proofs.Common.{◌≡◌, inl, inr, ℕ, ◌+◌, ◌≤◌, List, [], ◌∷◌, ◌++◌, length, Result, Ok, Err, refl, sym, subst, arith}
 use Rattle.std.proofs.lemmas.List.{length-append}
 use Rattle.run_stores.specs.declared.states.StoreState.{Ghosts}
 use Rattle.run_stores.specs.Calls.{IsFaithful}
 use Rattle.byte_io.specs.Outcomes.{Outcome}
 use Rattle.byte_io.specs.Reads.{Reads}
+use Rattle.histories.specs.declared.answers.Answer.{Answer}
 use Rattle.histories.specs.declared.limits.Limits.{Limits}
 use Rattle.store_histories.specs.Answered.{Links}
 use Rattle.store_histories.proofs.Links.{links_append, links_clean, links_legal, links_after}
@@ -13,8 +14,6 @@ use Rattle.http_exchange.specs.declared.requests.Request.{Request}
 use Rattle.http_exchange.specs.Streams.{Written, Writes}
 use Rattle.http_service.specs.Exchanges.{IsReplied, WasExchanged}
 use Rattle.http_service.specs.declared.replies.Exchange.{Exchange}
-use Rattle.http_service.specs.declared.replies.Reply.{Reply}
-use Rattle.http_service.specs.declared.replies.Reply.TheVariants as replies
 use Rattle.http_service.specs.Served.{HasServed, WasExchangedWithAny, WereExchanged, steps_of, steps_of_exchange, steps_of_reply}
 
 -- ---- any bytes
@@ -76,10 +75,10 @@ module _ {S : Type 0} (g : Ghosts S) (limits : Limits) where
 
   -- ---- the commands lead from store to store
 
-  reply_links : (wanted : Result Request Failing) (after : List ℕ) (reads : List Outcome) (reply : Reply) (old new : S) (is : IsReplied g limits wanted after reads reply old new)
+  reply_links : (wanted : Result Request Failing) (after : List ℕ) (reads : List Outcome) (reply : Result Answer Failing) (old new : S) (is : IsReplied g limits wanted after reads reply old new)
       → IsFaithful g new → Links g limits (steps_of_reply g limits wanted after reads reply old new is) old new
-  reply_links wanted after reads (replies.Answered answer) old new done clean = (new, done.answers clean, refl)
-  reply_links wanted after reads (replies.Failed failing) old new away clean = sym away.same
+  reply_links wanted after reads (Ok answer) old new done clean = (new, done.answers clean, refl)
+  reply_links wanted after reads (Err failing) old new away clean = sym away.same
 
   exchange_links : (exchange : Exchange) (old new : S) (was : WasExchangedWithAny g limits exchange old new) → IsFaithful g new → Links g limits (steps_of_exchange g limits exchange old new was) old new
   exchange_links exchange old new (inl served) clean = reply_links _ served.after served.responded.body_reads served.responded.reply old new served.responded.replied clean

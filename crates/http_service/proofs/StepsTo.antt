@@ -1,9 +1,10 @@
 -- An exchange is one step of the store's history, or none.
-use Rattle.std.proofs.Common.{◌≡◌, ◌⊎◌, inl, inr, ℕ, List, [], ◌∷◌, ◌≤◌, length, Result, refl, sym, arith}
+use Rattle.std.proofs.Common.{◌≡◌, ◌⊎◌, inl, inr, ℕ, List, [], ◌∷◌, ◌≤◌, length, Result, Ok, Err, refl, sym, arith}
 use Rattle.run_stores.specs.declared.states.StoreState.{Ghosts}
 use Rattle.run_stores.specs.Calls.{IsFaithful}
 use Rattle.byte_io.specs.Outcomes.{Outcome}
 use Rattle.histories.specs.History.{History, Step}
+use Rattle.histories.specs.declared.answers.Answer.{Answer}
 use Rattle.histories.specs.declared.limits.Limits.{Limits}
 use Rattle.store_histories.specs.Answered.{Links}
 use Rattle.http_exchange.specs.declared.failings.Failing.{Failing}
@@ -12,8 +13,6 @@ use Rattle.http_exchange.specs.Streams.{Written}
 use Rattle.http_service.specs.Exchanges.{IsReplied, WasExchanged}
 use Rattle.http_service.specs.Tasks.{command_from}
 use Rattle.http_service.specs.declared.replies.Exchange.{Exchange}
-use Rattle.http_service.specs.declared.replies.Reply.{Reply}
-use Rattle.http_service.specs.declared.replies.Reply.TheVariants as replies
 
 module _ {S : Type 0} (g : Ghosts S) (limits : Limits) where
   -- one step that leads from one store to another, or none
@@ -26,10 +25,10 @@ module _ {S : Type 0} (g : Ghosts S) (limits : Limits) where
   none : 0 ≤ 1
   none = omega arith
 
-  stepped_by : (wanted : Result Request Failing) (after : List ℕ) (reads : List Outcome) (reply : Reply) (old new : S) → IsReplied g limits wanted after reads reply old new → IsFaithful g new → Stepped old new
-  stepped_by wanted after reads (replies.Answered answer) old new done clean =
+  stepped_by : (wanted : Result Request Failing) (after : List ℕ) (reads : List Outcome) (reply : Result Answer Failing) (old new : S) → IsReplied g limits wanted after reads reply old new → IsFaithful g new → Stepped old new
+  stepped_by wanted after reads (Ok answer) old new done clean =
       let step : Step = record { command = command_from done.request.asked done.outcomes; answer = answer } in (step ∷ [], within, (new, done.answers clean, refl))
-  stepped_by wanted after reads (replies.Failed failing) old new away clean = ([], none, sym away.same)
+  stepped_by wanted after reads (Err failing) old new away clean = ([], none, sym away.same)
 
   pub exchange_stepped : {T : Type 0} (reads : T → Outcome → T → Type 0) (writes : T → Written → T → Type 0) (hears : T → T → Type 0) (exchange : Exchange) (from to : T) (old new : S)
       → WasExchanged g limits reads writes hears exchange from to old new → IsFaithful g new → Stepped old new

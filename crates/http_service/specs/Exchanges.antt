@@ -20,8 +20,6 @@ use Rattle.http_service.specs.Replies.{IsFailingSent, IsReplySent}
 use Rattle.http_service.specs.Tasks.{command_from}
 use Rattle.http_service.specs.declared.replies.Exchange.{Exchange}
 use Rattle.http_service.specs.declared.replies.Exchange.TheVariants as exchanges
-use Rattle.http_service.specs.declared.replies.Reply.{Reply}
-use Rattle.http_service.specs.declared.replies.Reply.TheVariants as replies
 
 module _ {S : Type 0} (g : Ghosts S) (limits : Limits) where
   -- a command was asked for, and answered; its body is made of the bytes behind the head and of these reads; where the disk returned what was written, the answer is one of the history
@@ -38,10 +36,10 @@ module _ {S : Type 0} (g : Ghosts S) (limits : Limits) where
     pub unread : reads ≡ []
     pub same : new ≡ old
 
-  -- a request was replied to
-  abbrev pub IsReplied : Result Request Failing → List ℕ → List Outcome → Reply → S → S → Type 0
-  IsReplied wanted after reads (replies.Answered answer) old new = IsDone wanted after reads answer old new
-  IsReplied wanted after reads (replies.Failed failing) old new = IsTurnedAway wanted reads failing old new
+  -- a request was replied to, by an answer or by a check that it fails
+  abbrev pub IsReplied : Result Request Failing → List ℕ → List Outcome → Result Answer Failing → S → S → Type 0
+  IsReplied wanted after reads (Ok answer) old new = IsDone wanted after reads answer old new
+  IsReplied wanted after reads (Err failing) old new = IsTurnedAway wanted reads failing old new
 
   module _ {T : Type 0} (reads : T → Outcome → T → Type 0) (writes : T → Written → T → Type 0) (hears : T → T → Type 0) where
     -- a request was replied to, over the body that came; and the response was sent
@@ -49,7 +47,7 @@ module _ {S : Type 0} (g : Ghosts S) (limits : Limits) where
       pub body_reads : List Outcome
       pub bodied : T
       pub body_came : Reads reads from body_reads bodied
-      pub reply : Reply
+      pub reply : Result Answer Failing
       pub replied : IsReplied wanted after body_reads reply old new
       pub written : List Written
       pub went : Writes writes bodied written to

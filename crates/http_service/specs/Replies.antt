@@ -1,5 +1,6 @@
 -- What is replied to a request, and how it is sent.
-use Rattle.std.specs.Prelude.{◌≡◌, ◌⊎◌, ℕ, true, false, IsTrue, List, []}
+use Rattle.std.specs.Prelude.{◌≡◌, ◌⊎◌, ℕ, true, false, IsTrue, List, [], Result, Ok, Err}
+use Rattle.report_texts.specs.Csv.{EventSpot, csv_text}
 use Rattle.histories.specs.declared.answers.Answer.{Answer}
 use Rattle.histories.specs.declared.answers.Answer.TheVariants as answers
 use Rattle.histories.specs.declared.answers.Refusal.{Refusal}
@@ -11,7 +12,8 @@ use Rattle.http_exchange.specs.declared.failings.Failing.{Failing}
 use Rattle.http_exchange.specs.declared.failings.Failing.TheVariants.{NoMemory}
 use Rattle.http_exchange.specs.declared.statuses.Status.{Status}
 use Rattle.http_exchange.specs.declared.statuses.Status.TheVariants as is
-use Rattle.http_exchange.specs.Streams.{Written, WentAs}
+use Rattle.warehouse.specs.Answered.{IsGivenFor}
+use Rattle.http_exchange.specs.Streams.{HaveTaken, IsFront, Written, WentAs, bytes_written}
 use Rattle.http_service.specs.declared.replies.Exchange.{Exchange}
 use Rattle.http_service.specs.declared.replies.Exchange.TheVariants as exchanges
 use Rattle.http_service.specs.declared.replies.Reply.{Reply}
@@ -43,6 +45,12 @@ status_of answers.Done = is.Okay
 status_of (answers.Text text) = is.Okay
 status_of (answers.Refused refusal) = refused_status refusal
 
+-- what a reply says: that a check failed, or an answer; of sums their text, or that there is no memory for it
+abbrev pub Says : Reply → Result Answer Failing → Type 0
+Says (replies.Failed failing) said = said ≡ Err failing
+Says (replies.Answered answer) said = said ≡ Ok answer
+Says (replies.Summed sums) said = (answer : Answer) × IsGivenFor answer (Ok sums) × (said ≡ Ok answer)
+
 -- ---- what is sent
 
 -- all of a text was written, under this status; or only its front, since a write failed
@@ -59,8 +67,16 @@ IsFailingSent failing exchange writes = IsSentAs (checks.status_of failing) (che
 abbrev pub IsAnswerSent : Answer → Exchange → List Written → Type 0
 IsAnswerSent answer exchange writes = IsSentAs (status_of answer) (response_text (status_of answer) [] (line_text answer)) exchange writes
 
--- the response of a reply was sent; where there is no memory for the line of an answer, that is said in its place
-abbrev pub IsReplySent : Reply → Exchange → List Written → Type 0
-IsReplySent (replies.Failed failing) exchange writes = IsFailingSent failing exchange writes
-IsReplySent (replies.Answered answer) exchange writes =
-    IsAnswerSent answer exchange writes ⊎ (IsTrue (takes_memory answer) × IsFailingSent NoMemory exchange writes)
+-- memory ran out within a text of CSV, which is written as it is made: its front was written, and no write failed
+pub record IsCutShort (answer : Answer) (exchange : Exchange) (writes : List Written) : Type 0 where
+  pub sums : List (EventSpot × ℕ)
+  pub answer_is : answer ≡ answers.Text (csv_text sums)
+  pub exchange_is : exchange ≡ exchanges.WriteFault (code_of is.Okay)
+  pub front : IsFront (bytes_written writes) (response_text is.Okay [] (csv_text sums))
+  pub taken : HaveTaken writes
+
+-- the response of what a reply says was sent; where there is no memory for the line of an answer, that is said in its place
+abbrev pub IsReplySent : Result Answer Failing → Exchange → List Written → Type 0
+IsReplySent (Err failing) exchange writes = IsFailingSent failing exchange writes
+IsReplySent (Ok answer) exchange writes =
+    IsAnswerSent answer exchange writes ⊎ ((IsTrue (takes_memory answer) × IsFailingSent NoMemory exchange writes) ⊎ IsCutShort answer exchange writes)

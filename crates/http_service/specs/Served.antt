@@ -1,10 +1,11 @@
 -- Requests that were served, one after another.
 use mathlib.Core.Logic.{inl, inr}
-use Rattle.std.specs.Prelude.{◌≡◌, ℕ, ◌≤◌, List, [], ◌∷◌, ◌++◌, length, Result}
+use Rattle.std.specs.Prelude.{◌≡◌, ℕ, ◌≤◌, List, [], ◌∷◌, ◌++◌, length, Result, Ok, Err}
 use Rattle.run_stores.specs.declared.states.StoreState.{Ghosts}
 use Rattle.byte_io.specs.Outcomes.{Outcome}
 use Rattle.histories.specs.History.{History}
 use Rattle.histories.specs.Legal.{AreLegal}
+use Rattle.histories.specs.declared.answers.Answer.{Answer}
 use Rattle.histories.specs.declared.limits.Limits.{Limits}
 use Rattle.histories.specs.Standard.{IsStandard}
 use Rattle.store_histories.specs.Answered.{HasHistory, Links}
@@ -13,8 +14,6 @@ use Rattle.http_exchange.specs.declared.requests.Request.{Request}
 use Rattle.http_service.specs.Exchanges.{IsReplied, WasExchanged}
 use Rattle.http_service.specs.Tasks.{command_from}
 use Rattle.http_service.specs.declared.replies.Exchange.{Exchange}
-use Rattle.http_service.specs.declared.replies.Reply.{Reply}
-use Rattle.http_service.specs.declared.replies.Reply.TheVariants as replies
 
 module _ {S : Type 0} (g : Ghosts S) (limits : Limits) where
   -- a request was read and responded to; of a socket nothing is known, so any bytes may have come and gone
@@ -29,9 +28,9 @@ module _ {S : Type 0} (g : Ghosts S) (limits : Limits) where
   -- ---- the commands that were asked for
 
   -- the command of a request, with its answer; a request that was turned away has none
-  abbrev pub steps_of_reply : (wanted : Result Request Failing) (after : List ℕ) (reads : List Outcome) (reply : Reply) (old new : S) → IsReplied g limits wanted after reads reply old new → History
-  steps_of_reply wanted after reads (replies.Answered answer) old new done = record { command = command_from done.request.asked done.outcomes; answer = answer } ∷ []
-  steps_of_reply wanted after reads (replies.Failed failing) old new away = []
+  abbrev pub steps_of_reply : (wanted : Result Request Failing) (after : List ℕ) (reads : List Outcome) (reply : Result Answer Failing) (old new : S) → IsReplied g limits wanted after reads reply old new → History
+  steps_of_reply wanted after reads (Ok answer) old new done = record { command = command_from done.request.asked done.outcomes; answer = answer } ∷ []
+  steps_of_reply wanted after reads (Err failing) old new away = []
 
   -- what is no request, or did not come whole, has none either
   abbrev pub steps_of_exchange : (exchange : Exchange) (old new : S) → WasExchangedWithAny exchange old new → History

@@ -1,25 +1,29 @@
 // The exchange (specs/Exchanges.antt).
-ghost use Rattle.std.specs.Prelude.{◌≡◌, drop, List};
+ghost use Rattle.std.specs.Prelude.{◌≡◌, drop, List, Result};
 ghost use Rattle.httparse.specs.Grammar.{RequestHead};
 ghost use Rattle.httparse.specs.Spans.{IsRequestWithin};
 ghost use Rattle.byte_io.specs.Outcomes.{Outcome};
 ghost use Rattle.byte_io.specs.Reads.{Reads};
 ghost use Rattle.histories.specs.Formats.{today};
-ghost use Rattle.histories.specs.History.{Annotate, Import};
+ghost use Rattle.histories.specs.History.{Annotate, Ask, Import};
+ghost use Rattle.histories.specs.declared.answers.Answer as given;
+ghost use Rattle.histories.specs.declared.answers.Query.TheVariants.{Csv};
 ghost use Rattle.warehouse.specs.Answered.{WasAnswered};
 ghost use Rattle.http_exchange.specs.Heads.{IsHeadAt};
 ghost use Rattle.http_exchange.specs.Requests.{request_of};
 ghost use Rattle.http_exchange.specs.Routes as spec;
 ghost use Rattle.http_exchange.specs.Bodies.{BodyRead};
+ghost use Rattle.http_exchange.specs.declared.failings.Failing as check;
 ghost use Rattle.http_service.specs.Exchanges.{IsReplied, IsResponded, WasExchanged};
-ghost use Rattle.http_service.specs.Performed.{IsDoneOver};
+ghost use Rattle.http_service.specs.Performed.{IsDoneOver, IsFulfilled};
+ghost use Rattle.http_service.specs.Replies.{Says};
 ghost use Rattle.http_service.specs.Tasks.{command_from_task};
 
 use crate::replies::{Exchange, Reply, send_failing, send_reply};
 use crate::rooms::Room;
 use crate::tasks::{Task, task_of};
 use cg_text::ListVec;
-use histories::{Answer, Selection};
+use histories::{Answer, Query, Selection};
 use http_exchange::{
     Body, Failing, HeadEnd, Place, RESPONSE_ROOM, Stream, body_comes, read_head, read_request,
 };
@@ -111,6 +115,42 @@ fn perform<T: Stream + Drop, S: RunStore>(
     }
 }
 
+/// Sums up what places cost, for a text of CSV, and hands the stream back.
+fn sum_up<T: Stream + Drop, S: RunStore>(
+    alloc: Global,
+    warehouse: &mut Warehouse<S>,
+    selection: &Selection,
+    body: Body<'_, T>,
+) -> (Reply, T)
+    ensures limits { warehouse.new.limits ≡ warehouse.old.limits }
+    ensures done { IsFulfilled S.StoreState T.reads warehouse.old.limits (λ outcomes. Ask (Csv selection.now)) body.entry
+        result.0 result.1 warehouse.old.store warehouse.new.store }
+{
+    let Body { stream, .. } = body;
+    match warehouse.csv(alloc, selection) {
+        Ok(sums) => (Reply::Summed(sums), stream),
+        Err(answer) => (Reply::Answered(answer), stream),
+    }
+}
+
+/// Replies to a request that passed its checks: what is asked is done over a body. Hands the stream back.
+fn fulfil<T: Stream + Drop, S: RunStore>(
+    alloc: Global,
+    warehouse: &mut Warehouse<S>,
+    task: Task,
+    body: Body<'_, T>,
+) -> (Reply, T)
+    ensures limits { warehouse.new.limits ≡ warehouse.old.limits }
+    ensures done { IsFulfilled S.StoreState T.reads warehouse.old.limits (command_from_task task) body.entry
+        result.0 result.1 warehouse.old.store warehouse.new.store }
+{
+    if let Task::Ask(Query::Csv(selection)) = &task {
+        return sum_up(alloc, warehouse, selection, body);
+    }
+    let (answer, stream) = perform(alloc, warehouse, task, body);
+    (Reply::Answered(answer), stream)
+}
+
 /// Replies to the request whose head `read_head` found in these bytes: its command is done, over the body
 /// behind the head, or the check that it fails is said. Hands the stream back.
 fn reply_to<T: Stream + Drop, S: RunStore>(
@@ -126,9 +166,9 @@ fn reply_to<T: Stream + Drop, S: RunStore>(
     requires within { IsRequestWithin bytes.now fields.now spans }
     ensures limits { warehouse.new.limits ≡ warehouse.old.limits }
     ensures replied { (head : RequestHead) → IsHeadAt bytes.now fields.now spans head
-        → (reads : List Outcome) × Reads T.reads stream reads result.1
-        × IsReplied S.StoreState warehouse.old.limits (request_of warehouse.old.limits.bytes head) (drop spans.len bytes.now) reads
-        result.0 warehouse.old.store warehouse.new.store }
+        → (reads : List Outcome) × Reads T.reads stream reads result.1 × ((said : Result given.Answer check.Failing) → Says result.0 said
+        → IsReplied S.StoreState warehouse.old.limits (request_of warehouse.old.limits.bytes head) (drop spans.len bytes.now) reads
+        said warehouse.old.store warehouse.new.store) }
 {
     let limit = warehouse.limits().bytes;
     match read_request(alloc, router, limit, bytes, fields, spans) {
@@ -138,8 +178,7 @@ fn reply_to<T: Stream + Drop, S: RunStore>(
                 held: &bytes[spans.len..],
                 left: request.length,
             };
-            let (answer, stream) = perform(alloc, warehouse, task_of(request.asked), body);
-            (Reply::Answered(answer), stream)
+            fulfil(alloc, warehouse, task_of(request.asked), body)
         }
         Err(failing) => (Reply::Failed(failing), stream),
     }
@@ -163,10 +202,9 @@ fn serve<T: Stream + Drop, S: RunStore>(
         → IsResponded S.StoreState warehouse.old.limits T.reads T.writes T.hears (request_of warehouse.old.limits.bytes head)
         (drop spans.len bytes.now) result.0 stream result.1 warehouse.old.store warehouse.new.store }
 {
+    let most = warehouse.most();
     let (reply, stream) = reply_to(alloc, router, warehouse, bytes, fields, spans, stream);
-    let mut stream = stream;
-    let exchange = send_reply(alloc, &mut stream, room, &reply);
-    (exchange, stream)
+    send_reply(alloc, most, stream, room, &reply)
 }
 
 /// Reads a request from a stream, does its command over the warehouse, and sends the response; hands the

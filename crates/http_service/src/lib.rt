@@ -10,6 +10,8 @@ mod logging;
 mod replies;
 // Where the heads of requests and responses stand.
 mod rooms;
+// The text of sums is sent as it is made.
+mod sending;
 // Clients are served, one after another (specs/Served.antt).
 mod serving;
 // What the warehouse is asked for a request (specs/Tasks.antt).

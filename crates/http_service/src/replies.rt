@@ -1,10 +1,14 @@
 // What is replied to a request, and how it is sent (specs/Replies.antt).
-ghost use Rattle.std.specs.Prelude.{◌≡◌, ◌≤◌, length, List};
+ghost use Rattle.std.specs.Prelude.{◌≡◌, ◌≤◌, length, List, Ok, Err, Result};
 ghost use Rattle.http_exchange.specs.Streams.{Written, Writes};
 ghost use Rattle.http_exchange.specs.Responses.{response_text};
+ghost use Rattle.http_exchange.specs.declared.failings.Failing as check;
+ghost use Rattle.histories.specs.declared.answers.Answer as given;
 ghost use Rattle.http_service.specs.Replies as spec;
 
+use crate::sending::send_sums;
 use answer_lines::line_of;
+use cost_exports::CellSums;
 use histories::{Answer, Refusal};
 use http_exchange::{Failing, RESPONSE_ROOM, Status, Stream, send};
 use std::alloc::{AllocError, Global};
@@ -16,7 +20,8 @@ pub enum Exchange {
     Sent(u16),
     /// A read failed before a head was there. Nothing was written, and no command was run.
     ReadFault,
-    /// A write of the response of this status failed, or took no byte. Its command stands.
+    /// A write of the response of this status failed, or took no byte, or memory ran out within a text of CSV. Its
+    /// command stands.
     WriteFault(u16),
 }
 
@@ -27,6 +32,8 @@ pub enum Reply {
     Failed(Failing),
     /// What its command is answered.
     Answered(Answer),
+    /// What places cost, of which the answer is the text as CSV.
+    Summed(CellSums),
 }
 
 /// The status of a refusal.
@@ -91,13 +98,13 @@ pub(crate) fn send_failing<T: Stream>(
 }
 
 /// Sends the response of an answer: a text from where it lies, since it may be long.
-fn send_answer<T: Stream>(
+pub(crate) fn send_answer<T: Stream>(
     alloc: Global,
     stream: &mut T,
     room: &mut [u8; RESPONSE_ROOM],
     answer: &Answer,
 ) -> Exchange
-    ensures { (writes : List Written) × Writes T.writes stream.old writes stream.new × spec.IsReplySent (Reply.Answered answer.now) result writes }
+    ensures { (writes : List Written) × Writes T.writes stream.old writes stream.new × spec.IsReplySent (Ok answer.now) result writes }
 {
     let status = status_of(answer);
     if let Answer::Text(text) = answer {
@@ -109,17 +116,23 @@ fn send_answer<T: Stream>(
     }
 }
 
-/// Sends the response of a reply.
-pub(crate) fn send_reply<T: Stream>(
+/// Sends the response of a reply, and hands the stream back. A text of CSV of more than `most` bytes is refused as one
+/// that there is no memory for.
+pub(crate) fn send_reply<T: Stream + Drop>(
     alloc: Global,
-    stream: &mut T,
+    most: usize,
+    stream: T,
     room: &mut [u8; RESPONSE_ROOM],
     reply: &Reply,
-) -> Exchange
-    ensures { (writes : List Written) × Writes T.writes stream.old writes stream.new × spec.IsReplySent reply.now result writes }
+) -> (Exchange, T)
+    ensures { (said : Result given.Answer check.Failing) × spec.Says reply.now said
+        × (writes : List Written) × Writes T.writes stream writes result.1 × spec.IsReplySent said result.0 writes }
 {
-    match reply {
-        Reply::Failed(failing) => send_failing(stream, room, *failing),
-        Reply::Answered(answer) => send_answer(alloc, stream, room, answer),
-    }
+    let mut stream = stream;
+    let exchange = match reply {
+        Reply::Failed(failing) => send_failing(&mut stream, room, *failing),
+        Reply::Answered(answer) => send_answer(alloc, &mut stream, room, answer),
+        Reply::Summed(sums) => return send_sums(alloc, most, stream, room, sums),
+    };
+    (exchange, stream)
 }

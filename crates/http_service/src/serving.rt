@@ -24,6 +24,8 @@ pub struct Service {
     pub port: u16,
     /// How many requests are answered.
     pub requests: u32,
+    /// How many bytes an answer may have.
+    pub most: usize,
     /// Whether each request is told on standard error.
     pub log: bool,
 }
@@ -180,7 +182,7 @@ pub fn serve<S: RunStore>(
 pub fn serve_over<S: RunStore>(rt: &HostRuntime, store: S, service: Service) -> (io::Result<u8>, S)
     ensures { IsFaithful S.StoreState result.1 → CameToServed S.StoreState service.requests store result.1 }
 {
-    let mut warehouse = Warehouse::new(store, Limits::standard());
+    let mut warehouse = Warehouse::new(store, Limits::standard()).with_most(service.most);
     let served = serve(rt, &mut warehouse, service);
     (served, warehouse.into_store())
 }

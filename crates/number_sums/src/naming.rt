@@ -17,7 +17,7 @@ use crate::sums::NumberSums;
 use cost_rows::{Cell, Key, Merged};
 use named_rows::held_name;
 use run_stores::{NameTable, StoreError};
-use std::alloc::Global;
+use std::alloc::{AllocError, Global};
 
 /// A sum as a row of event 0, with what a key tells of its part; other names are `???`, and other numbers 0.
 /// `Store` where a name is not held.
@@ -53,12 +53,21 @@ pub(crate) fn named_row<'n, N: NameTable>(
     })
 }
 
+/// What is left of some room behind the names of a row. No guarantee: it says how much memory the names of sums may
+/// take.
+fn room_behind(room: usize, row: &Cell<&[u8]>) -> Result<usize, AllocError> {
+    let places = row.object.len().saturating_add(row.file.len());
+    room.checked_sub(places.saturating_add(row.function.len()))
+        .ok_or(AllocError)
+}
+
 /// The sums by name.
 fn merge_named<N: NameTable>(
     alloc: Global,
     names: &N,
     key: Key,
     sums: &PartSums,
+    most: usize,
 ) -> Result<Merged, StoreError>
     requires small { numbers_total sums.now < 2 ^ 112 }
     ensures key { IfOk result (λ merged. merged.key ≡ key) }
@@ -66,8 +75,10 @@ fn merge_named<N: NameTable>(
     ensures held { IfOk result (λ _. AllByRecursion (IsHeld (N.name_rows names.now)) (numbers_told key sums.now)) }
 {
     let mut merged = Merged::new(alloc, key);
+    let mut room = most;
     for (part, cost) in sums.iter() {
         let row = named_row(names, key, part, cost)?;
+        room = room_behind(room, &row)?;
         merged.add(&row)?;
     }
     Ok(merged)
@@ -75,13 +86,19 @@ fn merge_named<N: NameTable>(
 
 impl NumberSums {
     /// The sums by name: the names that the key tells are looked up once for each sum, and may be some of all
-    /// names. Errors: `Memory`; and `Store` where a name is not held.
-    pub fn named<N: NameTable>(self, alloc: Global, names: &N) -> Result<Merged, StoreError>
+    /// names. Errors: `Memory`, also where the names of all sums have more than `most` bytes; and `Store` where a name is
+    /// not held.
+    pub fn named<N: NameTable>(
+        self,
+        alloc: Global,
+        names: &N,
+        most: usize,
+    ) -> Result<Merged, StoreError>
         ensures key { IfOk result (λ merged. merged.key ≡ self.key) }
         ensures sums { IfOk result (λ merged. (all : List NameRow) → AreOf all (N.name_rows names.now)
             → merged.sums ≡ sums_by self.key (map (named_cell all) (number_rows self.sums))) }
         ensures held { IfOk result (λ _. AllByRecursion (IsHeld (N.name_rows names.now)) (numbers_told self.key self.sums)) }
     {
-        merge_named(alloc, names, self.key, &self.sums)
+        merge_named(alloc, names, self.key, &self.sums, most)
     }
 }

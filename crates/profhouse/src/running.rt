@@ -143,6 +143,7 @@ pub(crate) fn run_plan<'a>(rt: &'a HostRuntime, plan: Plan<'a>) -> io::Result<Ex
             db,
             port,
             requests,
+            most_bytes,
             log,
         } => run_over(
             rt,
@@ -150,6 +151,7 @@ pub(crate) fn run_plan<'a>(rt: &'a HostRuntime, plan: Plan<'a>) -> io::Result<Ex
             Job::Serve(Service {
                 port,
                 requests,
+                most: most_bytes as usize,
                 log,
             }),
         ),

@@ -160,7 +160,7 @@ fn sums_may_be_fewer_than_events(rt: HostRuntime) -> Result<(), Fail> {
         derived,
         stated: None,
     };
-    let text = verify(alloc, 3, &head, &[9])?.text(alloc)?;
+    let text = verify(alloc, 3, &head, &[9])?.text(alloc, 1000)?;
     assert_eq!(rt;
         text.as_slice(),
         b"3 Ir 9 none none\n3 D\\x0ar 0 none none\n".as_slice()

@@ -1,2 +1,3 @@
+pub mod PrintedLemmas
 pub mod SessionLemmas
 pub mod WorkLemmas

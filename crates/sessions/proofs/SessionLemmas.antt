@@ -81,17 +81,6 @@ whole_printed text a b is = (text, line_alone (Text text) text (inl refl), is)
 pub part_printed : (text : List ℕ) (a b : Option (List ℕ)) → (n : ℕ) × Appends a b (take n text) → ArePrintedInPart (Text text ∷ []) a b
 part_printed text a b part = (text, part.0, line_alone (Text text) text (inl refl), part.1)
 
--- nothing was written before
-kept_appends : (a b c : Option (List ℕ)) (bytes : List ℕ) → Keeps a b → Appends b c bytes → Appends a c bytes
-kept_appends None b c bytes kept is = tt
-kept_appends (Some xs) None c bytes kept is = absurd kept
-kept_appends (Some xs) (Some ys) None bytes kept is = absurd is
-kept_appends (Some xs) (Some ys) (Some zs) bytes kept is = is ∙ ap (λ l. l ++ bytes) kept
-
-pub kept_prints : {E : Type 0} (result : Result Unit E) (xs : List Answer) (a b c : Option (List ℕ)) → Keeps a b → Prints result xs b c → Prints result xs a c
-kept_prints (Ok done) xs a b c kept it = (it.0, it.1, kept_appends a b c it.0 kept it.2)
-kept_prints (Err e) xs a b c kept it = (it.0, it.1, it.2, kept_appends a b c (take it.1 it.0) kept it.3)
-
 -- ---- the store is not asked
 
 pub refused : {S : Type 0} (g : Ghosts S) (limits : Limits) (command : Command) (refusal : Refusal) (store : S) → IsFaithful g store → ((h : History) → IsLegal limits h command (Refused refusal)) → Answers g limits command (Refused refusal) store store

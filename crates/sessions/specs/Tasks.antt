@@ -41,7 +41,7 @@ AreCommandsBy reads (plans.Verify db selected) store list = (store ≡ db.now) �
 AreCommandsBy reads (plans.Annotate db selected event file source) store list = (store ≡ db.now) × IsAnnotation reads (selection_from selected) event.now file.now list
 AreCommandsBy reads (plans.Csv db selected) store list = (store ≡ db.now) × (list ≡ Ask (Csv (selection_from selected)) ∷ [])
 AreCommandsBy reads (plans.Folded db selected) store list = (store ≡ db.now) × (list ≡ Ask (Folded (selection_from selected)) ∷ [])
-AreCommandsBy reads (plans.Serve db port requests log) store list = ⊥
+AreCommandsBy reads (plans.Serve db port requests most_bytes log) store list = ⊥
 
 -- the plans that ask for an annotated source or an export
 abbrev pub Exports : Plan → Type 0
@@ -67,5 +67,5 @@ IsQuestion plan = ⊥
 -- whatever is asked of the reads of files
 abbrev pub IsTaskOf : Plan → Task → Type 0
 IsTaskOf plan (tasks.Total path) = plan ≡ plans.Total path
-IsTaskOf plan (tasks.Serve db port requests log) = plan ≡ plans.Serve db port requests log
+IsTaskOf plan (tasks.Serve db port requests most_bytes log) = plan ≡ plans.Serve db port requests most_bytes log
 IsTaskOf plan (tasks.Over db work) = (reads : List Outcome → Bool) (list : List Command) → AreOf (λ outcomes. IsTrue (reads outcomes)) work list → AreCommandsBy (λ outcomes. IsTrue (reads outcomes)) plan db.now list

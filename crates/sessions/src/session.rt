@@ -21,7 +21,7 @@ use answer_lines::{is_refused, line_of};
 use byte_io::{FileSource, write_text};
 use cg_text::ListVec;
 use command_line::Selected;
-use cost_exports::{CellSums, Unwritten, write_csv};
+use cost_exports::{CellSums, TextSink, Unwritten, write_csv};
 use histories::{Answer, Refusal, Selection};
 use profile_records::Kind;
 use run_stores::{RunStore, is_group_name};
@@ -112,6 +112,20 @@ pub struct Session<'a, R, W: Drop, S: RunStore> {
     out: W,
     warehouse: Warehouse<S>,
     status: u8,
+}
+
+/// Prints a text that is made a piece at a time.
+impl<'a, R: Files + AllocGlobal, W: Write + Drop, S: RunStore> TextSink for Session<'a, R, W, S> {
+    ghost use Rattle.std.specs.Prelude.{◌≡◌, ℕ, take};
+    ghost use Rattle.std.specs.Io.KnownBytes.{Appends};
+
+    ghost takes = { λ old piece new. Appends (W.contents old.out) (W.contents new.out) piece × (new.warehouse ≡ old.warehouse) × (new.status ≡ old.status) };
+
+    ghost stops = { λ old piece new. ((n : ℕ) × Appends (W.contents old.out) (W.contents new.out) (take n piece)) × (new.warehouse ≡ old.warehouse) × (new.status ≡ old.status) };
+
+    fn take_piece(&mut self, piece: &[u8]) -> io::Result<()> {
+        write_text(&mut self.out, piece)
+    }
 }
 
 impl<'a, R: Files + AllocGlobal, W: Write + Drop, S: RunStore> Session<'a, R, W, S> {
@@ -235,7 +249,8 @@ impl<'a, R: Files + AllocGlobal, W: Write + Drop, S: RunStore> Session<'a, R, W,
         ensures told { (answer : given.Answer) × IsGivenFor answer (Ok sums.now) × (self.new.status ≡ status_after self.old.status (answer ∷ []))
             × Prints result (answer ∷ []) (W.contents self.old.out) (W.contents self.new.out) }
     {
-        match write_csv(self.rt.alloc(), sums, &mut self.out) {
+        let alloc = self.rt.alloc();
+        match write_csv(alloc, sums, self) {
             Ok(()) => Ok(()),
             Err(Unwritten::Memory) => self.tell(Answer::Refused(Refusal::Memory)),
             Err(Unwritten::Failed(error)) => Err(error),

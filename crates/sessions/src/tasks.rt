@@ -24,6 +24,7 @@ pub enum Task<'a> {
         db: &'a str,
         port: u16,
         requests: u32,
+        most_bytes: u32,
         log: bool,
     },
 }
@@ -193,11 +194,13 @@ pub fn task_of<'a>(plan: Plan<'a>) -> Task<'a>
             db,
             port,
             requests,
+            most_bytes,
             log,
         } => Task::Serve {
             db,
             port,
             requests,
+            most_bytes,
             log,
         },
         report => report_task(report),

@@ -69,11 +69,16 @@ fn is_known<S: RunStore>(
 }
 
 /// The text of what the calls of a function sum to.
-fn text_of_sums(alloc: Global, sums: &CallSums, event: &[u8]) -> Result<ListVec<u8>, AllocError>
+fn text_of_sums(
+    alloc: Global,
+    sums: &CallSums,
+    event: &[u8],
+    most: usize,
+) -> Result<ListVec<u8>, AllocError>
     ensures { IfOk result (λ text. text ≡ call_report_text event.now (call_report_of sums.now)) }
 {
     let report = calls(alloc, sums)?;
-    report.text(alloc, event)
+    report.text(alloc, most, event)
 }
 
 /// The text of the calls that were kept: the names of the functions on their other side are asked for, and no more.
@@ -83,6 +88,7 @@ fn text_of_calls<S: RunStore>(
     asked: &AskedFunction<'_>,
     calls: &KeptCalls,
     event: &[u8],
+    most: usize,
 ) -> Result<ListVec<u8>, StoreError>
     ensures told { Told S.StoreState result store.old store.new (λ t text.
         text ≡ call_report_text event.now (call_report_of (sums_named t.names (spot_asked asked.now) (kept_of calls.now)))) }
@@ -90,8 +96,8 @@ fn text_of_calls<S: RunStore>(
 {
     let numbers = numbers_of(alloc, &calls.rows)?;
     let names = store.names_among(alloc, &numbers)?;
-    let sums = sums_named(alloc, &names, *asked, calls)?;
-    let text = text_of_sums(alloc, &sums, event)?;
+    let sums = sums_named(alloc, &names, *asked, calls, most)?;
+    let text = text_of_sums(alloc, &sums, event, most)?;
     Ok(text)
 }
 
@@ -103,6 +109,7 @@ fn text_if_known<S: RunStore>(
     asked: &AskedFunction<'_>,
     calls: &KeptCalls,
     event: &[u8],
+    most: usize,
 ) -> Result<Option<ListVec<u8>>, StoreError>
     ensures told { Told S.StoreState result store.old store.new (λ t text. IsAsked t.names asked.now
         → text ≡ text_taken t runs.now event.now (taken_named t.names (spot_asked asked.now) (kept_of calls.now))) }
@@ -111,7 +118,7 @@ fn text_if_known<S: RunStore>(
     if !is_known(store, runs, asked, calls.known)? {
         return Ok(None);
     }
-    let text = text_of_calls(store, alloc, asked, calls, event)?;
+    let text = text_of_calls(store, alloc, asked, calls, event, most)?;
     Ok(Some(text))
 }
 
@@ -124,6 +131,7 @@ fn calls_text<S: RunStore>(
     event: &[u8],
     object: &[u8],
     name: &[u8],
+    most: usize,
 ) -> Result<Option<ListVec<u8>>, StoreError>
     ensures told { Told S.StoreState result store.old store.new (λ t text. IsCallsText t runs.now side (function_spot object.now name.now) event.now text) }
     ensures asks { AsksIfOpen S.StoreState (is_ok result) store.old store.new }
@@ -134,12 +142,13 @@ fn calls_text<S: RunStore>(
         asked: &asked,
     };
     let all = fold_runs(store, &adder, runs, KeptCalls::new(alloc, side))?;
-    text_if_known(store, alloc, runs, &asked, &all, event)
+    text_if_known(store, alloc, runs, &asked, &all, event, most)
 }
 
 /// Answers who calls a function of an object, or whom it calls, over the runs of a selection: a text, or
 /// the refusal of a run or a group that is not held, of an event that none of the runs has, or of a
-/// function that none of them knows. Errors: `Memory`; and `Store` as for a report by key.
+/// function that none of them knows. Errors: `Memory`; and `Store` as for a report by key. A text of more than `most`
+/// bytes is refused as one that there is no memory for.
 pub fn calls_answer<S: RunStore>(
     store: &mut S,
     alloc: Global,
@@ -148,6 +157,7 @@ pub fn calls_answer<S: RunStore>(
     event: &ListVec<u8>,
     object: &ListVec<u8>,
     function: &ListVec<u8>,
+    most: usize,
 ) -> Result<Answer, StoreError>
     ensures { AnswersAsked S.StoreState (λ t. AreCallsShown t selection.now side event.now object.now function.now)
         (Calls selection.now side event.now object.now function.now) result store.old store.new }
@@ -158,7 +168,8 @@ pub fn calls_answer<S: RunStore>(
         Err(refusal) => return Ok(Answer::Refused(refusal)),
     };
     let (object, name) = (object.as_slice(), function.as_slice());
-    match calls_text(store, alloc, runs.as_slice(), side, event, object, name)? {
+    let runs = runs.as_slice();
+    match calls_text(store, alloc, runs, side, event, object, name, most)? {
         Some(text) => Ok(Answer::Text(text)),
         None => Ok(Answer::Refused(Refusal::NoSuchName)),
     }

@@ -124,11 +124,12 @@ fn text_of_sums(
     alloc: Global,
     sums: &InclusiveSums,
     event: &[u8],
+    most: usize,
 ) -> Result<ListVec<u8>, AllocError>
     ensures { IfOk result (λ text. text ≡ inclusive_text event.now (inclusive_report sums.now)) }
 {
     let report = inclusive(alloc, sums)?;
-    report.text(alloc, event)
+    report.text(alloc, most, event)
 }
 
 /// The text of what runs add up to, of which the names are given.
@@ -137,11 +138,12 @@ fn text_of_parts<N: NameTable>(
     parts: InclusiveParts,
     names: &N,
     event: &[u8],
+    most: usize,
 ) -> Result<ListVec<u8>, StoreError>
     ensures { IfOk result (λ text. IsTextNamed (N.name_rows names.now) (sums_in parts) event.now text) }
 {
-    let sums = parts.named(alloc, names)?;
-    Ok(text_of_sums(alloc, &sums, event)?)
+    let sums = parts.named(alloc, names, most)?;
+    Ok(text_of_sums(alloc, &sums, event, most)?)
 }
 
 /// The text of the inclusive costs of some runs: only the names of functions that it shows are asked for.
@@ -150,6 +152,7 @@ fn inclusive_text<S: RunStore>(
     alloc: Global,
     runs: &[Counted],
     event: &[u8],
+    most: usize,
 ) -> Result<ListVec<u8>, StoreError>
     ensures told { Told S.StoreState result store.old store.new (λ t text. IsInclusiveText t runs.now event.now text) }
     ensures asks { AsksIfOpen S.StoreState (is_ok result) store.old store.new }
@@ -157,17 +160,19 @@ fn inclusive_text<S: RunStore>(
     let adder = InclusiveOfRuns { alloc };
     let parts = fold_runs(store, &adder, runs, InclusiveParts::new(alloc))?;
     let names = names_of_parts(store, alloc, &parts)?;
-    text_of_parts(alloc, parts, &names, event)
+    text_of_parts(alloc, parts, &names, event, most)
 }
 
 /// Answers what functions cost with all that they call, over the runs of a selection: a text, or the
 /// refusal of a run or a group that is not held, or of an event that none of the runs has. Errors:
-/// `Memory`; and `Store` as for a report by key.
+/// `Memory`; and `Store` as for a report by key. A text of more than `most` bytes is refused as one that there is no
+/// memory for.
 pub fn inclusive_answer<S: RunStore>(
     store: &mut S,
     alloc: Global,
     selection: &Selection,
     event: &ListVec<u8>,
+    most: usize,
 ) -> Result<Answer, StoreError>
     ensures { AnswersAsked S.StoreState (λ t. IsInclusive t selection.now event.now) (Inclusive selection.now event.now) result store.old store.new }
 {
@@ -176,6 +181,6 @@ pub fn inclusive_answer<S: RunStore>(
         Ok(runs) => runs,
         Err(refusal) => return Ok(Answer::Refused(refusal)),
     };
-    let text = inclusive_text(store, alloc, runs.as_slice(), event)?;
+    let text = inclusive_text(store, alloc, runs.as_slice(), event, most)?;
     Ok(Answer::Text(text))
 }

@@ -84,8 +84,14 @@ impl InclusiveParts {
     }
 
     /// Both parts as one, by name: the names are looked up once for each sum, and may be some of all names.
-    /// Errors: `Memory`; and `Store` where a name is not held, or where both together pass the bound of sums.
-    pub fn named<N: NameTable>(self, alloc: Global, names: &N) -> Result<InclusiveSums, StoreError>
+    /// Errors: `Memory`, also where the names of the sums have more than `most` bytes; and `Store` where a name is not
+    /// held, or where both together pass the bound of sums.
+    pub fn named<N: NameTable>(
+        self,
+        alloc: Global,
+        names: &N,
+        most: usize,
+    ) -> Result<InclusiveSums, StoreError>
         ensures held { IfOk result (λ _. AllByRecursion (IsHeld (N.name_rows names.now)) (numbers_told Function self.numbers.sums)) }
         ensures sums { IfOk result (λ sums. (all : List NameRow) → AreOf all (N.name_rows names.now) → sums ≡ costs_named all (sums_in self)) }
     {
@@ -95,7 +101,7 @@ impl InclusiveParts {
             stacks,
             ..
         } = self;
-        let costs = numbers.named(alloc, names)?;
+        let costs = numbers.named(alloc, names, most)?;
         if !is_within(costs.total(), stacks.sum()) || !is_within(self_cost, stacks.total()) {
             return Err(StoreError::Store);
         }

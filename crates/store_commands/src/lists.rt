@@ -44,13 +44,16 @@ fn push_run(text: &mut String, alloc: Global, run: &RunEntry) -> Result<(), Allo
     write!(text, "{label}\n")
 }
 
-/// The runs, a line for each.
-fn runs_text(alloc: Global, runs: &[RunEntry]) -> Result<ListVec<u8>, AllocError>
+/// The runs, a line for each, as long as the text has at most `most` bytes.
+fn runs_text(alloc: Global, runs: &[RunEntry], most: usize) -> Result<ListVec<u8>, AllocError>
     ensures { IfOk result (λ text. text ≡ flat_map entry_line runs.now) }
 {
     let mut text = String::new(alloc);
     for run in runs {
         push_run(&mut text, alloc, run)?;
+        if text.len() > most {
+            return Err(AllocError);
+        }
     }
     Ok(ListVec::from_vec(text.into_bytes()))
 }
@@ -100,47 +103,66 @@ fn push_group(text: &mut String, group: &GroupEntry) -> Result<(), AllocError>
     text.push_str("\n")
 }
 
-/// The groups, a line for each.
-fn groups_text(alloc: Global, groups: &[GroupEntry]) -> Result<ListVec<u8>, AllocError>
+/// The groups, a line for each, as long as the text has at most `most` bytes.
+fn groups_text(alloc: Global, groups: &[GroupEntry], most: usize) -> Result<ListVec<u8>, AllocError>
     ensures { IfOk result (λ text. text ≡ flat_map group_entry_line groups.now) }
 {
     let mut text = String::new(alloc);
     for group in groups {
         push_group(&mut text, group)?;
+        if text.len() > most {
+            return Err(AllocError);
+        }
     }
     Ok(ListVec::from_vec(text.into_bytes()))
 }
 
 /// The list of the runs that are held.
-fn list_runs<S: RunStore>(store: &mut S, alloc: Global) -> Result<ListVec<u8>, StoreError>
+fn list_runs<S: RunStore>(
+    store: &mut S,
+    alloc: Global,
+    most: usize,
+) -> Result<ListVec<u8>, StoreError>
     ensures told { Told S.StoreState result store.old store.new IsListOfRuns }
     ensures asks { Asks S.StoreState (is_ok result) store.old store.new }
 {
     let runs = store.runs(alloc)?;
-    Ok(runs_text(alloc, &runs)?)
+    Ok(runs_text(alloc, &runs, most)?)
 }
 
 /// The list of the groups.
-fn list_groups<S: RunStore>(store: &mut S, alloc: Global) -> Result<ListVec<u8>, StoreError>
+fn list_groups<S: RunStore>(
+    store: &mut S,
+    alloc: Global,
+    most: usize,
+) -> Result<ListVec<u8>, StoreError>
     ensures told { Told S.StoreState result store.old store.new IsListOfGroups }
     ensures asks { Asks S.StoreState (is_ok result) store.old store.new }
 {
     let groups = store.groups(alloc)?;
-    Ok(groups_text(alloc, &groups)?)
+    Ok(groups_text(alloc, &groups, most)?)
 }
 
-/// Answers which runs are held.
-pub fn runs_answer<S: RunStore>(store: &mut S, alloc: Global) -> Result<Answer, StoreError>
+/// Answers which runs are held. A text of more than `most` bytes is refused as one that there is no memory for.
+pub fn runs_answer<S: RunStore>(
+    store: &mut S,
+    alloc: Global,
+    most: usize,
+) -> Result<Answer, StoreError>
     ensures { AnswersAsked S.StoreState (λ t. ShowsText (IsListOfRuns t)) Runs result store.old store.new }
 {
-    let text = list_runs(store, alloc)?;
+    let text = list_runs(store, alloc, most)?;
     Ok(Answer::Text(text))
 }
 
-/// Answers which groups are there.
-pub fn groups_answer<S: RunStore>(store: &mut S, alloc: Global) -> Result<Answer, StoreError>
+/// Answers which groups are there. A text of more than `most` bytes is refused, as by `runs_answer`.
+pub fn groups_answer<S: RunStore>(
+    store: &mut S,
+    alloc: Global,
+    most: usize,
+) -> Result<Answer, StoreError>
     ensures { AnswersAsked S.StoreState (λ t. ShowsText (IsListOfGroups t)) Groups result store.old store.new }
 {
-    let text = list_groups(store, alloc)?;
+    let text = list_groups(store, alloc, most)?;
     Ok(Answer::Text(text))
 }

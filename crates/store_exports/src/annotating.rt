@@ -71,6 +71,7 @@ fn annotated_text<S: RunStore>(
     event: &[u8],
     name: &[u8],
     source: &[u8],
+    most: usize,
 ) -> Result<Option<ListVec<u8>>, StoreError>
     ensures told { Told S.StoreState result store.old store.new (λ t text. text ≡ annotated_over t runs.now event.now name.now source.now) }
     ensures asks { AsksIfOpen S.StoreState (is_ok result) store.old store.new }
@@ -81,14 +82,15 @@ fn annotated_text<S: RunStore>(
     if !sums.is_known() {
         return Ok(None);
     }
-    let text = annotate(alloc, &sums, event, source)?;
+    let text = annotate(alloc, most, &sums, event, source)?;
     Ok(Some(text))
 }
 
 /// Answers what the lines of a source cost in an event, by the name of its file in the runs of a selection:
 /// a text, or the refusal of a run or a group that is not held, of an event that none of the runs has, or of
 /// a file of which no line costs anything in them. Errors: `Memory`; and `Store` for a call of the database
-/// that fails, for rows out of form and for a sum of 2^112 or more, which no files that are held sum to.
+/// that fails, for rows out of form and for a sum of 2^112 or more, which no files that are held sum to. A text of more
+/// than `most` bytes is refused as one that there is no memory for.
 pub fn annotate_answer<S: RunStore>(
     store: &mut S,
     alloc: Global,
@@ -96,6 +98,7 @@ pub fn annotate_answer<S: RunStore>(
     event: &ListVec<u8>,
     name: &ListVec<u8>,
     source: &ListVec<u8>,
+    most: usize,
 ) -> Result<Answer, StoreError>
     ensures { AnswersAsked S.StoreState (λ t. IsAnnotated t selection.now event.now name.now source.now)
         (Annotate selection.now event.now name.now source.now) result store.old store.new }
@@ -106,7 +109,8 @@ pub fn annotate_answer<S: RunStore>(
         Err(refusal) => return Ok(Answer::Refused(refusal)),
     };
     let (name, source) = (name.as_slice(), source.as_slice());
-    match annotated_text(store, alloc, runs.as_slice(), event, name, source)? {
+    let runs = runs.as_slice();
+    match annotated_text(store, alloc, runs, event, name, source, most)? {
         Some(text) => Ok(Answer::Text(text)),
         None => Ok(Answer::Refused(Refusal::NoSuchName)),
     }

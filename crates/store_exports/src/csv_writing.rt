@@ -67,6 +67,7 @@ fn sums_of_runs<S: RunStore>(
     store: &mut S,
     alloc: Global,
     numbers: &[u32],
+    most: usize,
 ) -> Result<CellSums, StoreError>
     ensures told { Told S.StoreState result store.old store.new (λ t sums. AreSums t numbers.now sums) }
     ensures asks { AsksIfOpen S.StoreState (is_ok result) store.old store.new }
@@ -76,17 +77,18 @@ fn sums_of_runs<S: RunStore>(
         alloc,
         names: &names,
     };
-    fold_runs(store, &cells, numbers, CellSums::new(alloc))
+    fold_runs(store, &cells, numbers, CellSums::new(alloc, most))
 }
 
 /// The self costs above 0 by object, file, function, line and event, over the runs of a selection, whose text
 /// is the answer; or the refusal of a run or a group that is not held. Errors: `Memory`; and `Store` for a
 /// call of the database that fails, for rows out of form and for sums of 2^112 or more, which no files that
-/// are held sum to.
+/// are held sum to. `Memory` also where the text would have more than `most` bytes for its names alone.
 pub fn csv_sums<S: RunStore>(
     store: &mut S,
     alloc: Global,
     selection: &Selection,
+    most: usize,
 ) -> Result<Result<CellSums, Refusal>, StoreError>
     ensures { AnswersAsked S.StoreState (λ t. IsCsv t selection.now) (Csv selection.now) (csv_asked result) store.old store.new }
 {
@@ -94,20 +96,22 @@ pub fn csv_sums<S: RunStore>(
         Ok(numbers) => numbers,
         Err(refusal) => return Ok(Err(refusal)),
     };
-    let sums = sums_of_runs(store, alloc, numbers.as_slice())?;
+    let sums = sums_of_runs(store, alloc, numbers.as_slice(), most)?;
     Ok(Ok(sums))
 }
 
-/// Answers the sums of `csv_sums`: a text of CSV, or the refusal. Errors: those of `csv_sums`.
+/// Answers the sums of `csv_sums`: a text of CSV, or the refusal. Errors: those of `csv_sums`. A text of more than `most`
+/// bytes is refused as one that there is no memory for.
 pub fn csv_answer<S: RunStore>(
     store: &mut S,
     alloc: Global,
     selection: &Selection,
+    most: usize,
 ) -> Result<Answer, StoreError>
     ensures { AnswersAsked S.StoreState (λ t. IsCsv t selection.now) (Csv selection.now) result store.old store.new }
 {
-    match csv_sums(store, alloc, selection)? {
-        Ok(sums) => Ok(Answer::Text(csv_text(alloc, &sums)?)),
+    match csv_sums(store, alloc, selection, most)? {
+        Ok(sums) => Ok(Answer::Text(csv_text(alloc, most, &sums)?)),
         Err(refusal) => Ok(Answer::Refused(refusal)),
     }
 }

@@ -38,6 +38,7 @@ fn text_of_runs<S: RunStore>(
     store: &mut S,
     alloc: Global,
     numbers: &[u32],
+    most: usize,
 ) -> Result<ListVec<u8>, StoreError>
     ensures told { Told S.StoreState result store.old store.new (λ t text. text ≡ folded_over t numbers.now) }
     ensures asks { AsksIfOpen S.StoreState (is_ok result) store.old store.new }
@@ -46,17 +47,18 @@ fn text_of_runs<S: RunStore>(
         sums: StackSums::new(alloc),
     };
     let all = fold_runs(store, &StacksOfRuns, numbers, rows)?;
-    Ok(folded_text(alloc, &all.sums)?)
+    Ok(folded_text(alloc, most, &all.sums)?)
 }
 
 /// Answers the stacks of folded runs with their counts, over the runs of a selection: a folded text, or the
 /// refusal of a run or a group that is not held. Errors: `Memory`; and `Store` for a call of the database
 /// that fails, for rows out of form and for counts that sum to 2^112 or more, which no files that are held
-/// sum to.
+/// sum to. A text of more than `most` bytes is refused as one that there is no memory for.
 pub fn folded_answer<S: RunStore>(
     store: &mut S,
     alloc: Global,
     selection: &Selection,
+    most: usize,
 ) -> Result<Answer, StoreError>
     ensures { AnswersAsked S.StoreState (λ t. IsFolded t selection.now) (Folded selection.now) result store.old store.new }
 {
@@ -64,6 +66,6 @@ pub fn folded_answer<S: RunStore>(
         Ok(numbers) => numbers,
         Err(refusal) => return Ok(Answer::Refused(refusal)),
     };
-    let text = text_of_runs(store, alloc, numbers.as_slice())?;
+    let text = text_of_runs(store, alloc, numbers.as_slice(), most)?;
     Ok(Answer::Text(text))
 }

@@ -24,11 +24,12 @@ fn push_lines(
     number: u32,
     head: &FileHead,
     sums: &[u128],
+    most: usize,
 ) -> Result<(), AllocError>
     ensures { OnOk result (text.new.items ≡ text.old.items ++ verify_text (verified number head.now.events sums.now head.now.stated)) }
 {
     let checks = verify(alloc, number, head, sums)?;
-    checks.push_text(text)
+    checks.push_text(text, most)
 }
 
 /// Adds the lines of a run of this head. Its cells are read, and have to sum to the sums of its events.
@@ -39,13 +40,14 @@ fn push_sums<S: RunStore>(
     number: u32,
     head: &FileHead,
     text: &mut Vec<u8>,
+    most: usize,
 ) -> Result<(), StoreError>
     ensures told { Told S.StoreState result store.old store.new (λ t _. S.Names.name_rows names.now ≡ t.names → IsHeadIn number t head.now → IsChecked t number text.old.items text.new.items) }
     ensures asks { AsksIfOpen S.StoreState (is_ok result) store.old store.new }
 {
     let sums = store.sums_of(alloc, number)?;
     check_cells(store, alloc, names, number, sums.as_slice())?;
-    push_lines(text, alloc, number, head, sums.as_slice())?;
+    push_lines(text, alloc, number, head, sums.as_slice(), most)?;
     Ok(())
 }
 
@@ -56,12 +58,13 @@ fn check_run<S: RunStore>(
     names: &S::Names,
     number: u32,
     text: &mut Vec<u8>,
+    most: usize,
 ) -> Result<(), StoreError>
     ensures told { Told S.StoreState result store.old store.new (λ t _. S.Names.name_rows names.now ≡ t.names → IsChecked t number text.old.items text.new.items) }
     ensures asks { AsksIfOpen S.StoreState (is_ok result) store.old store.new }
 {
     let head = store.head_of(alloc, number)?;
-    push_sums(store, alloc, names, number, &head, text)
+    push_sums(store, alloc, names, number, &head, text, most)
 }
 
 /// Adds the lines of runs to a text, by the names that are held.
@@ -69,6 +72,7 @@ fn check_run<S: RunStore>(
 struct ChecksOfRuns<'n, N> {
     alloc: Global,
     names: &'n N,
+    most: usize,
 }
 
 impl<S: RunStore> RunFold<S> for ChecksOfRuns<'_, S::Names> {
@@ -83,7 +87,7 @@ impl<S: RunStore> RunFold<S> for ChecksOfRuns<'_, S::Names> {
 
     fn add(&self, store: &mut S, number: &u32, text: Vec<u8>) -> Result<Vec<u8>, StoreError> {
         let mut text = text;
-        check_run(store, self.alloc, self.names, *number, &mut text)?;
+        check_run(store, self.alloc, self.names, *number, &mut text, self.most)?;
         Ok(text)
     }
 }
@@ -93,6 +97,7 @@ fn check_runs<S: RunStore>(
     store: &mut S,
     alloc: Global,
     numbers: &[u32],
+    most: usize,
 ) -> Result<ListVec<u8>, StoreError>
     ensures told { Told S.StoreState result store.old store.new (λ t text. AreChecked t numbers.now text) }
     ensures asks { AsksIfOpen S.StoreState (is_ok result) store.old store.new }
@@ -101,6 +106,7 @@ fn check_runs<S: RunStore>(
     let checks = ChecksOfRuns {
         alloc,
         names: &names,
+        most,
     };
     let text = fold_runs(store, &checks, numbers, Vec::new(alloc))?;
     Ok(ListVec::from_vec(text))
@@ -109,11 +115,13 @@ fn check_runs<S: RunStore>(
 /// Answers what the sums of the events are beside the totals that the files state, for the runs of
 /// a selection: a text, or the refusal of a run or a group that is not held. Every cell of these runs is read.
 /// Errors: `Memory`; and `Store` for a call of the database that fails, for rows out of form, for cells that do
-/// not sum to the sums of their events, and for a name of a cell that is not held.
+/// not sum to the sums of their events, and for a name of a cell that is not held. A text of more than `most` bytes is
+/// refused as one that there is no memory for.
 pub fn verify_answer<S: RunStore>(
     store: &mut S,
     alloc: Global,
     selection: &Selection,
+    most: usize,
 ) -> Result<Answer, StoreError>
     ensures { AnswersAsked S.StoreState (λ t. IsVerified t selection.now) (Verify selection.now) result store.old store.new }
 {
@@ -121,6 +129,6 @@ pub fn verify_answer<S: RunStore>(
         Ok(numbers) => numbers,
         Err(refusal) => return Ok(Answer::Refused(refusal)),
     };
-    let text = check_runs(store, alloc, numbers.as_slice())?;
+    let text = check_runs(store, alloc, numbers.as_slice(), most)?;
     Ok(Answer::Text(text))
 }

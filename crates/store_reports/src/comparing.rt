@@ -60,11 +60,12 @@ fn text_of_sums(
     first: &Merged,
     second: &Merged,
     event: &[u8],
+    most: usize,
 ) -> Result<ListVec<u8>, AllocError>
     ensures { IfOk result (λ text. text ≡ difference_text event.now (difference_of first.now.key first.now.sums second.now.sums)) }
 {
     let difference = subtract(alloc, first, second)?;
-    difference.text(alloc, event)
+    difference.text(alloc, most, event)
 }
 
 /// The text of what some sums are less others, of which the names are given.
@@ -74,13 +75,14 @@ fn text_of_numbers<N: NameTable>(
     firsts: NumberSums,
     seconds: NumberSums,
     event: &[u8],
+    most: usize,
 ) -> Result<ListVec<u8>, StoreError>
     ensures { IfOk result (λ text. (all : List NameRow) → AreOf all (N.name_rows names.now)
         → text ≡ difference_text event.now (difference_of firsts.key (named_sums all firsts) (named_sums all seconds))) }
 {
-    let first = firsts.named(alloc, names)?;
-    let second = seconds.named(alloc, names)?;
-    let text = text_of_sums(alloc, &first, &second, event)?;
+    let first = firsts.named(alloc, names, most)?;
+    let second = seconds.named(alloc, names, most)?;
+    let text = text_of_sums(alloc, &first, &second, event, most)?;
     Ok(text)
 }
 
@@ -106,6 +108,7 @@ fn difference_text<S: RunStore>(
     seconds: &[Counted],
     key: Key,
     event: &[u8],
+    most: usize,
 ) -> Result<ListVec<u8>, StoreError>
     ensures told { Told S.StoreState result store.old store.new (λ t text. text ≡ difference_over t firsts.now seconds.now key event.now) }
     ensures asks { AsksIfOpen S.StoreState (is_ok result) store.old store.new }
@@ -114,7 +117,7 @@ fn difference_text<S: RunStore>(
     let second = number_runs(store, alloc, seconds, key)?;
     let numbers = numbers_of_both(alloc, &first, &second)?;
     let names = store.names_among(alloc, &numbers)?;
-    text_of_numbers(alloc, &names, first, second, event)
+    text_of_numbers(alloc, &names, first, second, event, most)
 }
 
 /// The answer over the runs of some numbers and those of others.
@@ -125,6 +128,7 @@ fn answer_difference<S: RunStore>(
     others: &[u32],
     key: Key,
     event: &[u8],
+    most: usize,
 ) -> Result<Answer, StoreError>
     ensures told { Told S.StoreState result store.old store.new (λ t answer. AnswersDifference t numbers.now others.now key event.now answer) }
     ensures still { has_changed result ≡ false }
@@ -135,14 +139,15 @@ fn answer_difference<S: RunStore>(
     if !have_event(&firsts) && !have_event(&seconds) {
         return Ok(Answer::Refused(Refusal::NoSuchEvent));
     }
-    let text = difference_text(store, alloc, &firsts, &seconds, key, event)?;
+    let text = difference_text(store, alloc, &firsts, &seconds, key, event, most)?;
     Ok(Answer::Text(text))
 }
 
 /// Answers what the runs of the first selection cost less what those of the second do, by key, or, where
 /// no second one is given, less the baseline of the group that is the first: a text, or the refusal of a
 /// run or a group that is not held, of a first selection without a baseline, or of an event that none of
-/// the runs has. Errors: `Memory`; and `Store` as for a report by key.
+/// the runs has. Errors: `Memory`; and `Store` as for a report by key. A text of more than `most` bytes is refused as
+/// one that there is no memory for.
 pub fn subtract_answer<S: RunStore>(
     store: &mut S,
     alloc: Global,
@@ -150,6 +155,7 @@ pub fn subtract_answer<S: RunStore>(
     second: &Option<Selection>,
     key: Key,
     event: &ListVec<u8>,
+    most: usize,
 ) -> Result<Answer, StoreError>
     ensures { AnswersAsked S.StoreState (λ t. IsSubtracted t first.now second.now key event.now)
         (Subtract first.now second.now key event.now) result store.old store.new }
@@ -169,5 +175,6 @@ pub fn subtract_answer<S: RunStore>(
         others.as_slice(),
         key,
         event.as_slice(),
+        most,
     )
 }

@@ -56,6 +56,7 @@ fn text_of_sums<N: NameTable>(
     names: &N,
     event: &[u8],
     cut: Cut,
+    most: usize,
 ) -> Result<ListVec<u8>, StoreError>
     ensures text { IfOk result (λ text. (all : List (Spot × ℕ)) → total_of all ≡ sums.now.total
         → AreEnough (λ e. e.1) cut all (map (named_sum (N.name_rows names.now) sums.now.key) sums.now.sums)
@@ -64,7 +65,7 @@ fn text_of_sums<N: NameTable>(
 {
     let named = sums.named(alloc, names)?;
     let report = by(alloc, sums.key(), &named, sums.total(), cut)?;
-    let text = report.text(alloc, event)?;
+    let text = report.text(alloc, most, event)?;
     Ok(text)
 }
 
@@ -76,6 +77,7 @@ fn report_text<S: RunStore>(
     key: Key,
     event: &[u8],
     cut: Cut,
+    most: usize,
 ) -> Result<ListVec<u8>, StoreError>
     ensures told { Told S.StoreState result store.old store.new (λ t text. text ≡ report_over t runs.now key event.now cut) }
     ensures asks { AsksIfOpen S.StoreState (is_ok result) store.old store.new }
@@ -84,13 +86,13 @@ fn report_text<S: RunStore>(
     let shown = shown_sums(store, alloc, sums, cut)?;
     let numbers = shown.numbers(alloc)?;
     let names = store.names_among(alloc, &numbers)?;
-    text_of_sums(alloc, &shown, &names, event, cut)
+    text_of_sums(alloc, &shown, &names, event, cut, most)
 }
 
 /// Answers where the cost of an event went, by key, over the runs of a selection: a text, or the refusal
 /// of a run or a group that is not held, or of an event that none of the runs has. Errors: `Memory`; and
 /// `Store` for a call of the database that fails, for rows out of form and for a sum of 2^112 or more,
-/// which no files that are held sum to.
+/// which no files that are held sum to. A text of more than `most` bytes is refused as one that there is no memory for.
 pub fn by_answer<S: RunStore>(
     store: &mut S,
     alloc: Global,
@@ -98,6 +100,7 @@ pub fn by_answer<S: RunStore>(
     key: Key,
     event: &ListVec<u8>,
     cut: Cut,
+    most: usize,
 ) -> Result<Answer, StoreError>
     ensures { AnswersAsked S.StoreState (λ t. IsReported t selection.now key event.now cut) (By selection.now key event.now cut) result store.old store.new }
 {
@@ -106,6 +109,6 @@ pub fn by_answer<S: RunStore>(
         Ok(runs) => runs,
         Err(refusal) => return Ok(Answer::Refused(refusal)),
     };
-    let text = report_text(store, alloc, runs.as_slice(), key, event, cut)?;
+    let text = report_text(store, alloc, runs.as_slice(), key, event, cut, most)?;
     Ok(Answer::Text(text))
 }

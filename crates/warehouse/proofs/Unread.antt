@@ -15,7 +15,7 @@ use Rattle.histories.proofs.Held.{IsStill}
 use Rattle.histories.specs.Representation.{TablesRepresent}
 use Rattle.store_histories.specs.Answered.{Answers, Follows, is_accepted}
 use Rattle.store_histories.proofs.Settled.{untouched}
-use Rattle.warehouse.specs.Answered.{unread_for}
+use Rattle.warehouse.specs.Answered.{IsShort, unread_for}
 use Rattle.byte_io.proofs.Outcomes.{failed_within, failed_is}
 use Rattle.byte_io.specs.Reads.{IsUnreadFor}
 use Rattle.byte_io.specs.declared.reading.Unread.{Unread}
@@ -48,3 +48,9 @@ module _ (limits : Limits) (command : Command) (form : IsInForm command) (limit 
       stepped unreads.Memory = none
       stepped unreads.Failed = none
       stepped unreads.TooLong = none
+
+-- it is answered with no text
+pub unread_short : (most : ℕ) (unread : Unread) → IsShort most (unread_for unread)
+unread_short most unreads.Memory = tt
+unread_short most unreads.Failed = tt
+unread_short most unreads.TooLong = tt

@@ -1,5 +1,5 @@
 -- What commands say, and what a list of them is answered and leaves.
-use Rattle.std.specs.Prelude.{◌≡◌, ◌⊎◌, ℕ, map, List, [], ◌∷◌, ◌++◌, Result, Ok, Err}
+use Rattle.std.specs.Prelude.{◌≡◌, ◌⊎◌, ℕ, ◌≤◌, map, List, [], ◌∷◌, ◌++◌, length, Result, Ok, Err}
 use Rattle.run_stores.specs.declared.states.StoreState.{Ghosts}
 use Rattle.run_stores.specs.Calls.{IsFaithful}
 use Rattle.byte_io.specs.Outcomes.{Outcome}
@@ -62,6 +62,22 @@ abbrev pub unread_for : Unread → Answer
 unread_for unread.Memory = answers.Refused reasons.Memory
 unread_for unread.Failed = answers.Refused reasons.ReadFault
 unread_for unread.TooLong = answers.Refused reasons.TooLong
+
+-- a text of at most so many bytes, or no text
+abbrev pub IsShort : ℕ → Answer → Type 0
+IsShort most (answers.Text text) = length text ≤ most
+IsShort most (answers.Run n) = Unit {0}
+IsShort most (answers.Held n) = Unit {0}
+IsShort most answers.Done = Unit {0}
+IsShort most (answers.Refused refusal) = Unit {0}
+
+-- the same of what is asked; no other command is answered with a text
+abbrev pub IsShortFor : {R : Type 0} → ℕ → commands.Command R → Answer → Type 0
+IsShortFor most (input.Ask query) answer = IsShort most answer
+IsShortFor most (input.Annotate selection event file source) answer = IsShort most answer
+IsShortFor most (input.Import kind label source) answer = Unit {0}
+IsShortFor most (input.Remove n) answer = Unit {0}
+IsShortFor most (input.Group name change) answer = Unit {0}
 
 -- sums are given for their text, or where there is no memory for it for the refusal of that; else the answer is given
 abbrev pub IsGivenFor : Answer → Result (List (EventSpot × ℕ)) Answer → Type 0

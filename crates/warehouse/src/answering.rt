@@ -1,5 +1,7 @@
 // Files are imported and sources annotated, each with its answer.
+ghost use Rattle.std.specs.Prelude.{◌≡◌, ◌⊎◌, Err, IfOk};
 ghost use Rattle.plain_tables.specs.Labels.{IsLabel};
+ghost use Rattle.plain_tables.specs.declared.errors.StoreError.TheVariants.{Memory};
 ghost use Rattle.run_stores.specs.Calls.{IsFaithful, Tells};
 ghost use Rattle.histories.specs.Formats.{today};
 ghost use Rattle.histories.specs.History.{Annotate, Ask, Import};
@@ -7,7 +9,7 @@ ghost use Rattle.histories.specs.declared.answers.Answer.{Answer};
 ghost use Rattle.histories.specs.declared.answers.Query.TheVariants.{Csv};
 ghost use Rattle.store_histories.specs.Answered.{Answers, AnswersAsked};
 ghost use Rattle.store_histories.specs.FromTables.{OrFailed};
-ghost use Rattle.warehouse.specs.Answered.{IsGivenFor, WasAnsweredOver};
+ghost use Rattle.warehouse.specs.Answered.{IsGivenFor, IsShort, WasAnsweredOver};
 ghost use Rattle.warehouse.specs.FromTables.{AnswersIn, WasAnnotated, WasImported};
 
 use crate::refusals::unread_answer;
@@ -66,57 +68,82 @@ pub(crate) fn import_in<S: RunStore, R: Source>(
     }
 }
 
-/// What a question is answered.
-fn answer<S: RunStore>(store: &mut S, alloc: Global, query: Query) -> Result<Answer, StoreError>
+/// What a question is answered. No text is made much longer than `most` bytes.
+fn answer<S: RunStore>(
+    store: &mut S,
+    alloc: Global,
+    most: usize,
+    query: Query,
+) -> Result<Answer, StoreError>
     ensures { AnswersAsked S.StoreState (AnswersIn query) query result store.old store.new }
 {
     match query {
-        Query::Runs => runs_answer(store, alloc),
-        Query::Groups => groups_answer(store, alloc),
+        Query::Runs => runs_answer(store, alloc, most),
+        Query::Groups => groups_answer(store, alloc, most),
         Query::By {
             selection,
             key,
             event,
             cut,
-        } => by_answer(store, alloc, &selection, key, &event, cut),
-        Query::Verify(selection) => verify_answer(store, alloc, &selection),
-        Query::Inclusive { selection, event } => inclusive_answer(store, alloc, &selection, &event),
+        } => by_answer(store, alloc, &selection, key, &event, cut, most),
+        Query::Verify(selection) => verify_answer(store, alloc, &selection, most),
+        Query::Inclusive { selection, event } => inclusive_answer(
+            store, alloc, &selection, &event, most,
+        ),
         Query::Calls {
             selection,
             side,
             event,
             object,
             function,
-        } => calls_answer(store, alloc, &selection, side, &event, &object, &function),
+        } => calls_answer(
+            store, alloc, &selection, side, &event, &object, &function, most,
+        ),
         Query::Subtract {
             first,
             second,
             key,
             event,
-        } => subtract_answer(store, alloc, &first, &second, key, &event),
+        } => subtract_answer(store, alloc, &first, &second, key, &event, most),
         Query::Annotate {
             selection,
             event,
             file,
             source,
-        } => annotate_answer(store, alloc, &selection, &event, &file, &source),
-        Query::Csv(selection) => csv_answer(store, alloc, &selection),
-        Query::Folded(selection) => folded_answer(store, alloc, &selection),
+        } => annotate_answer(store, alloc, &selection, &event, &file, &source, most),
+        Query::Csv(selection) => csv_answer(store, alloc, &selection, most),
+        Query::Folded(selection) => folded_answer(store, alloc, &selection, most),
     }
 }
 
+/// Refuses a text of more than `most` bytes, as one that there is no memory for.
+fn keep_short(answered: Result<Answer, StoreError>, most: usize) -> Result<Answer, StoreError>
+    ensures kept { (result ≡ answered) ⊎ (result ≡ Err Memory) }
+    ensures short { IfOk result (IsShort most) }
+{
+    if let Ok(Answer::Text(text)) = &answered {
+        if text.len() > most {
+            return Err(StoreError::Memory);
+        }
+    }
+    answered
+}
+
 /// Answers a question.
-pub(crate) fn ask_in<S: RunStore>(store: &mut S, alloc: Global, query: Query) -> Answer
+pub(crate) fn ask_in<S: RunStore>(store: &mut S, alloc: Global, most: usize, query: Query) -> Answer
     ensures answered { (limits : _) → IsFaithful S.StoreState store.new → Answers S.StoreState limits (Ask query) result store.old store.new }
     ensures found { Tells S.StoreState store.old store.new (λ t. OrFailed (AnswersIn query t) result) }
+    ensures short { IsShort most result }
 {
-    answer_of(answer(store, alloc, query))
+    let answered = answer(store, alloc, most, query);
+    answer_of(keep_short(answered, most))
 }
 
 /// Shows what each line of a source costs. It is read first.
 pub(crate) fn annotate_in<S: RunStore, R: Source>(
     store: &mut S,
     alloc: Global,
+    most: usize,
     selection: Selection,
     event: ListVec<u8>,
     file: ListVec<u8>,
@@ -125,11 +152,13 @@ pub(crate) fn annotate_in<S: RunStore, R: Source>(
     ensures answered { (limits : _)
         → WasAnsweredOver S.StoreState R.reads limits (Annotate selection event file) source.old source.new result store.old store.new }
     ensures found { WasAnnotated S.StoreState R.reads selection event file source.old source.new result store.old store.new }
+    ensures short { IsShort most result }
 {
     match read_to_end(alloc, SOURCE_BYTES, source) {
         Ok(text) => {
             let text = ListVec::from_vec(text);
-            answer_of(annotate_answer(store, alloc, &selection, &event, &file, &text))
+            let answered = annotate_answer(store, alloc, &selection, &event, &file, &text, most);
+            answer_of(keep_short(answered, most))
         }
         Err(unread) => unread_answer(unread),
     }
@@ -139,13 +168,14 @@ pub(crate) fn annotate_in<S: RunStore, R: Source>(
 pub(crate) fn csv_in<S: RunStore>(
     store: &mut S,
     alloc: Global,
+    most: usize,
     selection: &Selection,
 ) -> Result<CellSums, Answer>
     ensures answered { (answer : Answer) → IsGivenFor answer result
         → (limits : _) → IsFaithful S.StoreState store.new → Answers S.StoreState limits (Ask (Csv selection.now)) answer store.old store.new }
     ensures found { (answer : Answer) → IsGivenFor answer result → Tells S.StoreState store.old store.new (λ t. OrFailed (AnswersIn (Csv selection.now) t) answer) }
 {
-    match csv_sums(store, alloc, selection) {
+    match csv_sums(store, alloc, selection, most) {
         Ok(Ok(sums)) => Ok(sums),
         Ok(Err(refusal)) => Err(Answer::Refused(refusal)),
         Err(failure) => Err(answer_of(Err(failure))),

@@ -7,7 +7,7 @@ ghost use Rattle.histories.specs.declared.answers.Answer.{Answer};
 ghost use Rattle.histories.specs.declared.answers.Query.TheVariants.{Csv};
 ghost use Rattle.store_histories.specs.Answered.{Answers};
 ghost use Rattle.store_histories.specs.FromTables.{OrFailed};
-ghost use Rattle.warehouse.specs.Answered.{IsGivenFor, WasAnswered, WasAnsweredOver, WasRun};
+ghost use Rattle.warehouse.specs.Answered.{IsGivenFor, IsShort, IsShortFor, WasAnswered, WasAnsweredOver, WasRun};
 ghost use Rattle.warehouse.specs.FromTables.{AnswersIn, IsFoundIn, WasAnnotated, WasImported};
 
 use crate::answering::{annotate_in, ask_in, csv_in, import_in};
@@ -54,11 +54,20 @@ impl<S: RunStore> Warehouse<S> {
         source: &mut R,
     ) -> Answer
         ensures limits { self.new.limits ≡ self.old.limits }
+        ensures short { IsShort self.old.most result }
         ensures answered { WasAnsweredOver S.StoreState R.reads self.old.limits (Annotate selection event file) source.old source.new
             result self.old.store self.new.store }
         ensures found { WasAnnotated S.StoreState R.reads selection event file source.old source.new result self.old.store self.new.store }
     {
-        annotate_in(&mut self.store, alloc, selection, event, file, source)
+        annotate_in(
+            &mut self.store,
+            alloc,
+            self.most,
+            selection,
+            event,
+            file,
+            source,
+        )
     }
 
     /// Sums up what places cost over the runs of a selection, so that who asks can write their text as it is
@@ -71,14 +80,16 @@ impl<S: RunStore> Warehouse<S> {
         ensures found { (answer : Answer) → IsGivenFor answer result
             → Tells S.StoreState self.old.store self.new.store (λ t. OrFailed (AnswersIn (Csv selection.now) t) answer) }
     {
-        csv_in(&mut self.store, alloc, selection)
+        csv_in(&mut self.store, alloc, self.most, selection)
     }
 
     /// Does what a command says, and answers it. A refused command changes nothing. Over tables that
     /// another program filled, and that represent no history, a question is answered by what their lines
-    /// say, and an import, a removal or a change of a group makes of them what it says; or it is refused.
+    /// say, and an import, a removal or a change of a group makes of them what it says; or it is refused. A text
+    /// that is longer than it may be is refused as one that there is no memory for.
     pub fn apply<R: Source + Drop>(&mut self, alloc: Global, command: Command<R>) -> Answer
         ensures limits { self.new.limits ≡ self.old.limits }
+        ensures short { IsShortFor self.old.most command result }
         ensures answered { WasAnswered S.StoreState R.reads self.old.limits command result self.old.store self.new.store }
         ensures found { IsFoundIn S.StoreState R.reads self.old.limits command result self.old.store self.new.store }
     {
@@ -98,13 +109,13 @@ impl<S: RunStore> Warehouse<S> {
             ),
             Command::Remove(number) => remove_in(store, number),
             Command::Group(name, change) => change_in(store, self.limits, name.as_slice(), change),
-            Command::Ask(query) => ask_in(store, alloc, query),
+            Command::Ask(query) => ask_in(store, alloc, self.most, query),
             Command::Annotate {
                 selection,
                 event,
                 file,
                 mut source,
-            } => annotate_in(store, alloc, selection, event, file, &mut source),
+            } => annotate_in(store, alloc, self.most, selection, event, file, &mut source),
         }
     }
 

@@ -8,22 +8,22 @@ use Rattle.cost_exports.proofs.csv_texts.put_all.Goals as goal
 
 pub returns-in_err-write_header : goal.returns-in_err-write_header
 returns-in_err-write_header g c from on =
-    passed c.from_residual.result _ _ _ c.from_residual.ensures.1 (cut_here from c.args.pieces.now _ (g.W.Write.contents c.args.out.now) [] (csv_text c.args.sums.now) refl on)
+    passed c.from_residual.result _ _ _ c.from_residual.ensures.1 (cut_here g.W.TextSink.takes from g.W.TextSink.stops c.args.pieces.now _ c.args.out.now [] (csv_text c.args.sums.now) refl on)
 
 pub returns-in_err-put_places : goal.returns-in_err-put_places
 returns-in_err-put_places g c from on =
     let header = row_text default_writer csv_header in
-    let begun = gathered_on from c.args.pieces.now _ (g.W.Write.contents c.args.out.now) [] header refl on (c.in_ok-write_header.ensures on.held on.gathered) in
+    let begun = gathered_on g.W.TextSink.takes from c.args.pieces.now _ c.args.out.now [] header refl on (c.in_ok-write_header.ensures on.held on.gathered) in
     let cut = c.in_err-put_places.ensures from header begun in
     passed c.from_residual-in_err-put_places.result _ _ _ c.from_residual-in_err-put_places.ensures.1
-    (subst (λ (sums : List (EventSpot × ℕ)). IsCut from c.put_places.new.pieces (g.W.Write.contents c.put_places.new.out) (csv_text sums)) c.places.ensures cut)
+    (subst (λ (sums : List (EventSpot × ℕ)). IsCut g.W.TextSink.takes g.W.TextSink.stops from c.put_places.new.pieces c.put_places.new.out (csv_text sums)) c.places.ensures cut)
 
 pub returns : goal.returns
 returns g c from on =
     let header = row_text default_writer csv_header in
     let rows = csv_rows (sums_in c.places.result.now) in
-    let begun = gathered_on from c.args.pieces.now _ (g.W.Write.contents c.args.out.now) [] header refl on (c.in_ok-write_header.ensures on.held on.gathered) in
+    let begun = gathered_on g.W.TextSink.takes from c.args.pieces.now _ c.args.out.now [] header refl on (c.in_ok-write_header.ensures on.held on.gathered) in
     let all = c.in_ok-put_places.ensures from header begun in
-    let to = g.W.Write.contents c.hand_on.new.out in
-    subst (λ (sums : List (EventSpot × ℕ)). MatchResult c.hand_on.result (λ done. IsOut from c.hand_on.new.self to (csv_text sums)) (λ e. IsCut from c.hand_on.new.self to (csv_text sums))) c.places.ensures
+    let to = c.hand_on.new.out in
+    subst (λ (sums : List (EventSpot × ℕ)). MatchResult c.hand_on.result (λ done. IsOut g.W.TextSink.takes from c.hand_on.new.self to (csv_text sums)) (λ e. IsCut g.W.TextSink.takes g.W.TextSink.stops from c.hand_on.new.self to (csv_text sums))) c.places.ensures
     (c.hand_on.ensures from (header ++ rows) all)

@@ -7,5 +7,5 @@ use Rattle.cost_exports.proofs.csv_texts.put_line.Goals as goal
 pub returns-then-are_full : goal.returns-then-are_full
 returns-then-are_full g c from text on =
     let row = csv_row (spot_with (held_names c.args.names.now) (held_line c.args.line.now), c.args.cost) in
-    let more = gathered_on from c.args.pieces.now _ (g.W.Write.contents c.args.out.now) text row refl on (c.in_ok-write_line.ensures on.held on.gathered) in
-    handed_on c.hand_on.result from c.hand_on.new.self (g.W.Write.contents c.hand_on.new.out) (text ++ row) (c.hand_on.ensures from (text ++ row) more)
+    let more = gathered_on g.W.TextSink.takes from c.args.pieces.now _ c.args.out.now text row refl on (c.in_ok-write_line.ensures on.held on.gathered) in
+    handed_on g.W.TextSink.takes g.W.TextSink.stops c.hand_on.result from c.hand_on.new.self c.hand_on.new.out (text ++ row) (c.hand_on.ensures from (text ++ row) more)

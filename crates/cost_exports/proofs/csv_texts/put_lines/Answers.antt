@@ -27,11 +27,11 @@ returns-in_err-put_line g c from text on =
     let was = c.loop-line.invariant from text on in
     let same : (was.0 ++ row) ++ more ≡ all = append_assoc was.0 row more ∙ ap (λ lines. was.0 ++ csv_rows (placed names (held_lines lines))) (sym c.in-Some.ensures.steps) ∙ was.2 in
     passed c.from_residual.result _ _ _ c.from_residual.ensures.1
-    (cut_on from c.put_line.new.pieces (g.W.Write.contents c.put_line.new.out) (was.0 ++ row) more all same (c.in_err-put_line.ensures from was.0 was.1))
+    (cut_on g.W.TextSink.takes from g.W.TextSink.stops c.put_line.new.pieces c.put_line.new.out (was.0 ++ row) more all same (c.in_err-put_line.ensures from was.0 was.1))
 
 pub returns : goal.returns
 returns g c from text on =
     let names = held_names c.args.names.now in
     let was = c.loop-line.invariant from text on in
     let all = sym (append-nil was.0) ∙ ap (λ lines. was.0 ++ csv_rows (placed names (held_lines lines))) (sym c.in-None.ensures.steps.0) ∙ was.2 in
-    subst (λ (bytes : List ℕ). IsOn from c.loop-line.pieces (g.W.Write.contents c.loop-line.out) bytes) all was.1
+    subst (λ (bytes : List ℕ). IsOn g.W.TextSink.takes from c.loop-line.pieces c.loop-line.out bytes) all was.1

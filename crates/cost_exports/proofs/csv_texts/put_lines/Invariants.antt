@@ -7,6 +7,6 @@ use Rattle.cost_exports.proofs.csv_texts.put_lines.Given as goal
 -- the rows so far, and those to come
 abbrev pub invariant-loop-line : goal.invariant-loop-line
 invariant-loop-line g l =
-    (from : Option (List ℕ)) (text : List ℕ) → IsOn from l.initial.pieces (g.W.Write.contents l.initial.out) text
-    → (bytes : List ℕ) × IsOn from l.pieces (g.W.Write.contents l.out) bytes
+    (from : _) (text : List ℕ) → IsOn g.W.TextSink.takes from l.initial.pieces l.initial.out text
+    → (bytes : List ℕ) × IsOn g.W.TextSink.takes from l.pieces l.out bytes
     × (bytes ++ csv_rows (placed (held_names l.names) (held_lines l.line-iterator)) ≡ text ++ csv_rows (placed (held_names l.names) l.lines))

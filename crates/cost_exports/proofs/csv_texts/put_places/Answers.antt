@@ -37,7 +37,7 @@ returns-in_err-put_lines g c from text on =
     let whole = text ++ csv_rows (sums_in c.args.places.now) in
     let same : (was.0 ++ rows) ++ csv_rows more ≡ whole = append_assoc was.0 rows (csv_rows more) ∙ ap (λ bytes. was.0 ++ bytes) (sym step) ∙ was.2 in
     passed c.from_residual.result _ _ _ c.from_residual.ensures.1
-    (cut_on from c.put_lines.new.pieces (g.W.Write.contents c.put_lines.new.out) (was.0 ++ rows) (csv_rows more) whole same (c.in_err-put_lines.ensures from was.0 was.1))
+    (cut_on g.W.TextSink.takes from g.W.TextSink.stops c.put_lines.new.pieces c.put_lines.new.out (was.0 ++ rows) (csv_rows more) whole same (c.in_err-put_lines.ensures from was.0 was.1))
 
 pub loop-names-preserved : goal.loop-names-preserved
 loop-names-preserved g c from text on =
@@ -55,4 +55,4 @@ returns g c from text on =
     let all = c.args.places.now.lines in
     let was = c.loop-names.invariant from text on in
     let done = sym (append-nil was.0) ∙ ap (λ slots. was.0 ++ csv_rows (spread (with_lines all (held_slots slots)))) (sym c.in-None.ensures.steps.0) ∙ was.2 in
-    subst (λ (bytes : List ℕ). IsOn from c.loop-names.pieces (g.W.Write.contents c.loop-names.out) bytes) done was.1
+    subst (λ (bytes : List ℕ). IsOn g.W.TextSink.takes from c.loop-names.pieces c.loop-names.out bytes) done was.1

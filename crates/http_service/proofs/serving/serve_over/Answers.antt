@@ -6,13 +6,13 @@ use Rattle.http_service.proofs.serving.serve_over.Goals as goal
 
 pub returns : goal.returns
 returns g c clean =
-    let before = c.new-warehouse.ensures.store in
-    let limits = c.new-warehouse.ensures.limits in
+    let before = c.with_most-warehouse.ensures.store ∙ c.new.ensures.store in
+    let limits = c.with_most-warehouse.ensures.limits ∙ c.new.ensures.limits in
     let after = c.into_store.ensures in
     let standard : IsStandard c.standard.result = record { bytes = c.standard.ensures.bytes; runs = c.standard.ensures.runs; groups = c.standard.ensures.groups; numbers = c.standard.ensures.numbers } in
     let served = c.serve-served.ensures.served (subst (IsFaithful g.S.StoreState) after clean) in
     record {
-      limits = c.new-warehouse.result.limits;
+      limits = c.with_most-warehouse.result.limits;
       standard = subst IsStandard (sym limits) standard;
-      served = subst (λ s. HasServed g.S.StoreState c.new-warehouse.result.limits c.args.service.requests s c.into_store.result) before (subst (λ s. HasServed g.S.StoreState c.new-warehouse.result.limits c.args.service.requests c.new-warehouse.result.store s) (sym after) served);
+      served = subst (λ s. HasServed g.S.StoreState c.with_most-warehouse.result.limits c.args.service.requests s c.into_store.result) before (subst (λ s. HasServed g.S.StoreState c.with_most-warehouse.result.limits c.args.service.requests c.with_most-warehouse.result.store s) (sym after) served);
     }

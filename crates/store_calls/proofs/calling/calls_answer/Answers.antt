@@ -24,7 +24,7 @@ returns-in-Some g c clean =
     let event : c.as_slice-event.result.now ≡ c.args.event.now = search rules in
     let object : c.as_slice-object.result.now ≡ c.args.object.now = search rules in
     let name : c.as_slice-name.result.now ≡ c.args.function.now = search rules in
-    let runs : c.as_slice.result.now ≡ c.in-Ok.runs = search rules in
+    let runs : c.as_slice-runs.result.now ≡ c.in-Ok.runs = search rules in
     asked_twice g.S.StoreState _ _ (calls_are_expected selection side c.args.event.now c.args.object.now c.args.function.now) _ _ _ _ refl c.in_ok-runs.ensures.asks (c.in_ok-text.ensures.asks clean) (λ t represents early mid.
     let told = rw c.in-Some.is at (c.in_ok-text.ensures.told clean t mid) in
     record {
@@ -45,7 +45,7 @@ returns g c clean =
     let event : c.as_slice-event.result.now ≡ c.args.event.now = search rules in
     let object : c.as_slice-object.result.now ≡ c.args.object.now = search rules in
     let name : c.as_slice-name.result.now ≡ c.args.function.now = search rules in
-    let runs : c.as_slice.result.now ≡ c.in-Ok.runs = search rules in
+    let runs : c.as_slice-runs.result.now ≡ c.in-Ok.runs = search rules in
     asked_twice g.S.StoreState _ _ (calls_are_expected selection side c.args.event.now c.args.object.now c.args.function.now) _ _ _ _ refl c.in_ok-runs.ensures.asks (c.in_ok-text.ensures.asks clean) (λ t represents early mid.
     let told = rw c.in-None.is at (c.in_ok-text.ensures.told clean t mid) in
     record {

@@ -23,7 +23,7 @@ returns-in-Some g c clean =
     let event : c.as_slice-event.result.now ≡ c.args.event.now = search rules in
     let name : c.as_slice-name.result.now ≡ c.args.name.now = search rules in
     let source : c.as_slice-source.result.now ≡ c.args.source.now = search rules in
-    let runs : c.as_slice.result.now ≡ c.in-Ok.runs = search rules in
+    let runs : c.as_slice-runs.result.now ≡ c.in-Ok.runs = search rules in
     asked_twice g.S.StoreState _ _ (annotation_is_expected selection c.args.event.now c.args.name.now c.args.source.now) _ _ _ _ refl c.in_ok-runs.ensures.asks (c.in_ok-text.ensures.asks clean) (λ t represents early mid.
     let told = rw c.in-Some.is at (c.in_ok-text.ensures.told clean t mid) in
     record {
@@ -39,7 +39,7 @@ returns g c clean =
     let event : c.as_slice-event.result.now ≡ c.args.event.now = search rules in
     let name : c.as_slice-name.result.now ≡ c.args.name.now = search rules in
     let source : c.as_slice-source.result.now ≡ c.args.source.now = search rules in
-    let runs : c.as_slice.result.now ≡ c.in-Ok.runs = search rules in
+    let runs : c.as_slice-runs.result.now ≡ c.in-Ok.runs = search rules in
     asked_twice g.S.StoreState _ _ (annotation_is_expected selection c.args.event.now c.args.name.now c.args.source.now) _ _ _ _ refl c.in_ok-runs.ensures.asks (c.in_ok-text.ensures.asks clean) (λ t represents early mid.
     let told = rw c.in-None.is at (c.in_ok-text.ensures.told clean t mid) in
     record {

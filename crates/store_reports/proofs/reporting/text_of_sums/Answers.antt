@@ -20,6 +20,6 @@ returns-clause-text g c all total enough =
     let event = c.args.event.now in
     let given = ap given_sums c.deref.ensures.value ∙ c.in_ok-named.ensures.sums in
     let report = c.in_ok-report.ensures all (total ∙ sym c.total.ensures.value) (subst (AreEnough (λ (e : Spot × _). e.1) c.args.cut all) (sym given) enough) in
-    c.in_ok-text.ensures
+    c.in_ok-text.ensures.text
     ∙ ap (key_report_text event) report
     ∙ ap (λ key. key_report_text event (report_of key c.args.cut all)) c.key.ensures

@@ -8,7 +8,9 @@ use Rattle.store_histories.specs.Answered.{Answers, WasAsked}
 use Rattle.store_histories.specs.FromTables.{OrFailed}
 use Rattle.store_histories.proofs.Questions.{answered_as, or_failed}
 use Rattle.store_exports.specs.Annotated.{IsAnnotated}
-use Rattle.warehouse.proofs.Unread.{unread_answered}
+use Rattle.warehouse.specs.Answered.{IsShort}
+use Rattle.warehouse.proofs.GivenLemmas.{kept_asked, short_for}
+use Rattle.warehouse.proofs.Unread.{unread_answered, unread_short}
 use Rattle.warehouse.proofs.answering.annotate_in.Goals as goal
 
 pub returns-in-Ok : goal.returns-in-Ok
@@ -18,6 +20,7 @@ returns-in-Ok g c = record {
       let bytes = bytes_of read.outcomes in
       let ended = read.read.0 in
       let s = c.args.selection in
+      let kept = c.keep_short.result in
       let command = Annotate s c.args.event c.args.file read.outcomes in
       let query = queries.Annotate s c.args.event c.args.file bytes in
       let text : c.from_vec-text.result ≡ bytes = c.from_vec-text.ensures ∙ read.read.1 in
@@ -25,11 +28,11 @@ returns-in-Ok g c = record {
         outcomes = read.outcomes;
         came = read.came;
         answers = λ clean.
-            let asked = subst (λ x. WasAsked g.S.StoreState (λ t. IsAnnotated t s c.args.event c.args.file x) (queries.Annotate s c.args.event c.args.file x) c.annotate_answer.result c.args.store.now c.annotate_answer.new.store)
-            text (c.annotate_answer.ensures clean) in
-            subst (λ a. Answers g.S.StoreState limits command a c.args.store.now c.annotate_answer.new.store) (sym c.answer_of.ensures)
+            let asked = subst (λ x. WasAsked g.S.StoreState (λ t. IsAnnotated t s c.args.event c.args.file x) (queries.Annotate s c.args.event c.args.file x) kept c.args.store.now c.annotate_answer-answered.new.store)
+            text (kept_asked g.S.StoreState (λ t. IsAnnotated t s c.args.event c.args.file c.from_vec-text.result) (queries.Annotate s c.args.event c.args.file c.from_vec-text.result) c.args.store.now c.annotate_answer-answered.new.store c.annotate_answer-answered.result kept c.keep_short.ensures.kept c.annotate_answer-answered.ensures clean) in
+            subst (λ a. Answers g.S.StoreState limits command a c.args.store.now c.annotate_answer-answered.new.store) (sym c.answer_of.ensures)
             (answered_as g.S.StoreState limits (λ t. IsAnnotated t s c.args.event c.args.file bytes) query command tt (λ h. ended_expected most_of_source read.outcomes (expected_of_query h query) ended.reads.within ended.reads.unfailed ended.ended)
-            c.args.store.now c.annotate_answer.new.store c.annotate_answer.result asked);
+            c.args.store.now c.annotate_answer-answered.new.store kept asked);
       };
   found =
       let read = c.in-Ok.ensures in
@@ -40,9 +43,11 @@ returns-in-Ok g c = record {
         answered = inr (
           read.read.0,
           λ clean t was. subst₂ (λ x a. OrFailed (IsAnnotated t c.args.selection c.args.event c.args.file x) a) text (sym c.answer_of.ensures)
-              (or_failed (IsAnnotated t c.args.selection c.args.event c.args.file c.from_vec-text.result) c.annotate_answer.result ((c.annotate_answer.ensures clean).told t was)),
+              (or_failed (IsAnnotated t c.args.selection c.args.event c.args.file c.from_vec-text.result) c.keep_short.result
+              ((kept_asked g.S.StoreState (λ t. IsAnnotated t c.args.selection c.args.event c.args.file c.from_vec-text.result) (queries.Annotate c.args.selection c.args.event c.args.file c.from_vec-text.result) c.args.store.now c.annotate_answer-answered.new.store c.annotate_answer-answered.result c.keep_short.result c.keep_short.ensures.kept c.annotate_answer-answered.ensures clean).told t was)),
         );
       };
+  short = subst (IsShort c.args.most) (sym c.answer_of.ensures) (short_for c.args.most c.keep_short.result c.keep_short.ensures.short);
 }
 
 pub returns : goal.returns
@@ -64,4 +69,5 @@ returns g c = record {
         came = read.came;
         answered = inl (c.in-Err.unread, read.read, c.unread_answer.ensures);
       };
+  short = subst (IsShort c.args.most) (sym c.unread_answer.ensures) (unread_short c.args.most c.in-Err.unread);
 }

@@ -13,7 +13,7 @@ bytes_of {Z} w = unwrap_or (text_written (λ (v : Vec ℕ Z). Some v.items) w) [
 pub returns-in-Err : goal.returns-in-Err
 returns-in-Err g c from text on =
     let piece = c.as_slice.ensures.value ∙ c.in-Ok.ensures.ok ∙ ap bytes_of c.take.ensures.rows ∙ ap (λ o. unwrap_or o []) on.gathered.text in
-    cut_within from c.args.self.now _ (g.W.Write.contents c.args.out.now) (g.W.Write.contents c.write_text.new.out) text c.as_slice.result.now refl on piece c.in-Err.ensures.part
+    cut_within g.W.TextSink.takes from g.W.TextSink.stops c.args.self.now _ c.args.out.now c.take_piece.new.self text c.as_slice.result.now refl on piece c.in-Err.ensures
 
 pub returns : goal.returns
 returns g c from text on =
@@ -25,4 +25,4 @@ returns g c from text on =
       fields = made.fields;
       clean = made.wrote;
     } in
-    all_out from c.args.self.now _ (g.W.Write.contents c.args.out.now) (g.W.Write.contents c.write_text.new.out) text c.as_slice.result.now refl none on piece c.in_default-write_text.ensures.whole
+    all_out g.W.TextSink.takes from c.args.self.now _ c.args.out.now c.take_piece.new.self text c.as_slice.result.now refl none on piece c.in_default-take_piece.ensures

@@ -4,7 +4,7 @@ use Rattle.histories.specs.History.{Annotate, Import, Remove, Ask}
 use Rattle.plain_tables.specs.Labels.{IsGroupName}
 use Rattle.store_histories.specs.FromTables.{WasChangedIn}
 use Rattle.store_commands.specs.Changes.{GroupsIn, command_from_change}
-use Rattle.warehouse.specs.Answered.{Says}
+use Rattle.warehouse.specs.Answered.{IsShortFor, Says}
 use Rattle.warehouse.specs.FromTables.{IsFoundIn, WasImported}
 use Rattle.warehouse.proofs.warehouse.Warehouse.apply.Goals as goal
 
@@ -72,3 +72,18 @@ returns-in-Import-clause-found g c =
     let limits = c.args.self.now.limits in
     let found = subst (λ l. WasImported g.S.StoreState g.R.Source.reads limits c.in-Import.kind l c.in-Import.source c.import_in.new.source c.import_in.result c.args.self.now.store c.import_in.new.store) c.as_slice.ensures.value c.import_in.ensures.found in
     subst (λ k. IsFoundIn g.S.StoreState g.R.Source.reads limits k c.import_in.result c.args.self.now.store c.import_in.new.store) (sym c.in-Import.is) (c.import_in.new.source, found)
+
+pub returns-in-Ask-clause-short : goal.returns-in-Ask-clause-short
+returns-in-Ask-clause-short g c = subst (λ k. IsShortFor c.args.self.now.most k c.ask_in.result) (sym c.in-Ask.is) c.ask_in.ensures.short
+
+pub returns-in-Annotate-clause-short : goal.returns-in-Annotate-clause-short
+returns-in-Annotate-clause-short g c = subst (λ k. IsShortFor c.args.self.now.most k c.annotate_in.result) (sym c.in-Annotate.is) c.annotate_in.ensures.short
+
+pub returns-in-Import-clause-short : goal.returns-in-Import-clause-short
+returns-in-Import-clause-short g c = subst (λ k. IsShortFor c.args.self.now.most k c.import_in.result) (sym c.in-Import.is) tt
+
+pub returns-in-Remove-clause-short : goal.returns-in-Remove-clause-short
+returns-in-Remove-clause-short g c = subst (λ k. IsShortFor c.args.self.now.most k c.remove_in.result) (sym c.in-Remove.is) tt
+
+pub returns-in-Group-clause-short : goal.returns-in-Group-clause-short
+returns-in-Group-clause-short g c = subst (λ k. IsShortFor c.args.self.now.most k c.change_in.result) (sym c.in-Group.is) tt
