@@ -14,11 +14,7 @@ use sqlite_disk::Disk;
 use sqlite_pages::{Error, Pages};
 use std::alloc::Global;
 
-fn last_of<P: Pages>(
-    store: &mut P,
-    alloc: Global,
-    root: u32,
-) -> Result<Option<i64>, Error>
+fn last_of<P: Pages>(store: &mut P, alloc: Global, root: u32) -> Result<Option<i64>, Error>
     ensures done { IsClean P.Pages store.new → HasTable (P.Pages.size store.old) (P.Pages.pages store.old) root
         → MatchResult result (IsLastRowid (rows_of (P.Pages.size store.old) (P.Pages.pages store.old) root)) (FailsFor P.Pages store.old store.new ⊥) }
     ensures kept { Continues P.Pages store.old store.new }
