@@ -1,5 +1,7 @@
 -- What calls that read leave.
-use Rattle.std.proofs.Common.{◌≡◌, ℕ, List, refl, sym, ap₂, subst, subst₂, ◌∙◌}
+use Rattle.std.proofs.Common.{◌≡◌, ◌≤◌, ℕ, List, refl, sym, ap₂, subst, subst₂, ◌∙◌}
+use Rattle.sqlite_pages.specs.declared.error.Error.{Error}
+use Rattle.sqlite_store.proofs.Causes.{since}
 use Rattle.sqlite_disk.specs.declared.Disk.{Ghosts}
 use Rattle.sqlite_pool.specs.Pool as pools
 use Rattle.sqlite_pool.specs.File.{in_use, IsSoundFile}
@@ -12,7 +14,7 @@ use Rattle.sqlite_trees.specs.Tree.{Trees}
 use Rattle.sqlite_value.specs.declared.keys.Order.{Order}
 use Rattle.page_rows.specs.Tables.{IsIndexRooted, IsRooted}
 use Rattle.page_files.specs.declared.files.PageFile.{PageFile}
-use Rattle.page_files.specs.Files.{page_size, pages_of, IsFaithful, IsUsable, OnlyReads}
+use Rattle.page_files.specs.Files.{faults, page_size, pages_of, FailsToRead, IsFaithful, IsUsable, OnlyReads}
 use Rattle.page_files.specs.Held.{Has, IsBehind, Rests}
 use Rattle.page_files.specs.Trees.{ShowsIndex, ShowsTable, trees_of}
 
@@ -80,3 +82,7 @@ module _ {D : Type 0} {g : Ghosts D} where
           behind = behind_after old new reads.keeps was.behind;
           known = was.known ∙ ap₂ (λ n p. roots_of n wanted (in_use n p)) (sym sized) (sym same);
         }
+
+  -- a later call fails for a cause
+  pub fails_later : (a b c : PageFile D g) (e : Error) → faults a ≤ faults b → faults b ≤ faults c → FailsToRead b c e → FailsToRead a c e
+  fails_later a b c e early late = since (faults a) (faults b) (pools.ending c.pool) ⊥ e early late

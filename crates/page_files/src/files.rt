@@ -127,7 +127,11 @@ impl<D: Disk> PageFile<D> {
         ensures reads { OnlyReads self.old self.new }
         ensures usable { OnOk result (IsUsable self.new) }
     {
-        page_rows::walk(&mut self.pool, alloc, root, from, sink)?;
+        let walked = page_rows::walk(&mut self.pool, alloc, root, from, sink);
+        if let Err(WalkError::Pages(Error::OutOfMemory)) = walked {
+            return Err(WalkError::Pages(self.table_fault(alloc, root)));
+        }
+        walked?;
         self.if_usable()?;
         Ok(())
     }
@@ -147,7 +151,11 @@ impl<D: Disk> PageFile<D> {
         ensures reads { OnlyReads self.old self.new }
         ensures usable { OnOk result (IsUsable self.new) }
     {
-        let found = page_rows::find_row(&mut self.pool, alloc, root, rowid, payload)?;
+        let found = page_rows::find_row(&mut self.pool, alloc, root, rowid, payload);
+        if let Err(Error::OutOfMemory) = found {
+            return Err(self.table_fault(alloc, root));
+        }
+        let found = found?;
         self.if_usable()?;
         Ok(found)
     }

@@ -6,6 +6,8 @@
 mod appends;
 // The entries of an index.
 mod entries;
+// Why a table was not read.
+mod faults;
 // A database file that was opened with no check of its pages, and what is read from it.
 mod files;
 // The last row of a table.

@@ -18,6 +18,8 @@ use Rattle.page_files.proofs.Standing.{catalog_shown, entries_in_order, index_st
 use Rattle.page_places.proofs.Placing.{index_placed_at}
 use Rattle.page_rows.specs.Indexes.{from_entry}
 use Rattle.page_places.proofs.Finding.{found_is, nothing_is, refused_is_wide}
+use Rattle.std.proofs.lemmas.Result.{err_from_is_err_and}
+use Rattle.sqlite_pages.specs.declared.error.Error.TheVariants.{OutOfMemory}
 use Rattle.page_places.proofs.names.find_name.Goals as goal
 
 module _ {D : Type 0} {g : Ghosts D} (old new : PageFile D g) where
@@ -27,6 +29,10 @@ module _ {D : Type 0} {g : Ghosts D} (old new : PageFile D g) where
   why (Pages error) t now holds name from is tree fails = inl (error, fails, is)
   why (Refused end) t now holds name from is tree fails =
       let wide = refused_is_wide t now holds name from end (subst (λ l. MayRefuse IsRefused (from_entry plain from l) end) tree fails) in inr (is ∙ wide.0, wide.1)
+
+pub returns-in_err-push-clause-told : goal.returns-in_err-push-clause-told
+returns-in_err-push-clause-told g c clean = λ t known shows root.
+    let p = err_from_is_err_and c.from_residual.result c.from_residual.ensures.1 in rw (p.1, p.2) (inl (OutOfMemory, tt, refl))
 
 pub returns-in-Ok-clause-told : goal.returns-in-Ok-clause-told
 returns-in-Ok-clause-told g c clean = λ t known shows root.

@@ -1,10 +1,23 @@
-use Rattle.std.proofs.Common.{subst₂, to_z-of_z}
+use Rattle.std.proofs.Common.{◌≡◌, subst₂, to_z-of_z}
 use Rattle.std.proofs.lemmas.Result.{err_from_is_err_and}
 use Rattle.sqlite_pages.proofs.Doubt.{no_doubt}
 use Rattle.sqlite_trees.specs.View.{Finds}
 use Rattle.sqlite_store.specs.Db.{table_row}
 use Rattle.page_rows.proofs.FileTables.{table_there, table_shown}
+use Rattle.page_files.proofs.Reading.{fails_later, same_table, OnlyReads-trans}
 use Rattle.page_files.proofs.files.PageFile.find_row.Goals as goal
+
+pub returns-in-Err-OutOfMemory-clause-done : goal.returns-in-Err-OutOfMemory-clause-done
+returns-in-Err-OutOfMemory-clause-done g c faithful = λ wanted t shows.
+    let kept = c.find_row-found.ensures.kept in
+    fails_later c.args.self.now (record { pool = c.find_row-found.new.store; scratch = c.args.self.now.scratch }) c.table_fault.new.self c.table_fault.result kept.more_faults c.table_fault.ensures.reads.keeps.stays.faults
+    (c.table_fault.ensures.done faithful wanted t (same_table c.args.self.now _ kept.same_size c.find_row-found.ensures.pages shows))
+
+pub returns-in-Err-OutOfMemory-clause-reads : goal.returns-in-Err-OutOfMemory-clause-reads
+returns-in-Err-OutOfMemory-clause-reads g c =
+    let order = c.find_row-found.ensures.kept.in_order in
+    OnlyReads-trans c.args.self.now (record { pool = c.find_row-found.new.store; scratch = c.args.self.now.scratch }) c.table_fault.new.self
+    (record { keeps = order.keeps; marks = order.marks; pages = c.find_row-found.ensures.pages }) c.table_fault.ensures.reads
 
 pub returns-in_err-found-clause-done : goal.returns-in_err-found-clause-done
 returns-in_err-found-clause-done g c faithful = λ wanted t shows.
@@ -13,5 +26,5 @@ returns-in_err-found-clause-done g c faithful = λ wanted t shows.
 
 pub returns-clause-done : goal.returns-clause-done
 returns-clause-done g c faithful = λ wanted t shows.
-    subst₂ (λ id rows. Finds rows id (table_row (id, c.find_row.new.payload.items)) c.in_ok-found.found) (to_z-of_z c.ranges.rowid) (table_shown shows.is_db shows.rooted)
+    subst₂ (λ id rows. Finds rows id (table_row (id, c.find_row-found.new.payload.items)) c.in_ok-found.found) (to_z-of_z c.ranges.rowid) (table_shown shows.is_db shows.rooted)
     (c.in_ok-found.ensures.done (no_doubt _ faithful) (table_there shows.is_db shows.rooted))
