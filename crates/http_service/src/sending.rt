@@ -99,7 +99,9 @@ fn send_csv<T: Stream + Drop>(
             (Some(exchange), stream)
         }
         Err(Unwritten::Memory) => (None, stream),
-        Err(_) => (Some(Exchange::WriteFault(Status::Okay.code())), stream),
+        Err(Unwritten::Failed(_error)) => {
+            (Some(Exchange::WriteFault(Status::Okay.code())), stream)
+        }
     }
 }
 

@@ -1,4 +1,4 @@
-use Rattle.std.proofs.Common.{inl, inr, ◌++◌, refl, ap, subst}
+use Rattle.std.proofs.Common.{false, inl, inr, ◌++◌, refl, ap, subst}
 use Rattle.report_texts.specs.Csv.{csv_text}
 use Rattle.http_exchange.specs.Streams.{IsFront, WentAs, bytes_written}
 use Rattle.http_exchange.specs.declared.statuses.Status.TheVariants.{Okay}
@@ -21,11 +21,11 @@ returns-in-Ok-clause-sent g c =
 pub returns-in-Err-Memory-clause-none : goal.returns-in-Err-Memory-clause-none
 returns-in-Err-Memory-clause-none g c is = ap (λ s. s.stream) (c.in-Err-Memory.ensures.none c.in-Err-Memory.field-0-is)
 
-pub returns-in-Err-clause-sent : goal.returns-in-Err-clause-sent
-returns-in-Err-clause-sent g c =
+pub returns-in-Err-Failed-clause-sent : goal.returns-in-Err-Failed-clause-sent
+returns-in-Err-Failed-clause-sent g c =
     let text = csv_text c.args.sums.now in
     let from : Sending g.row.T.Denot = record { stream = c.args.stream; head = c.args.head } in
-    elim (sent_part g.T.Stream.writes from text c.write_csv-written.new.out c.in-Err.ensures.part) [
+    elim (sent_part g.T.Stream.writes from text c.write_csv-written.new.out c.in-Err-Failed.ensures.part) [
       | inl cut ↦ (cut.0, cut.1, inl (c.code.ensures, subst (λ l. WentAs false (l ++ text) cut.0) c.requires cut.2))
       | inr short ↦ (
         short.0,
