@@ -129,10 +129,15 @@ pub(crate) fn send_reply<T: Stream + Drop>(
         × (writes : List Written) × Writes T.writes stream writes result.1 × spec.IsReplySent said result.0 writes }
 {
     let mut stream = stream;
-    let exchange = match reply {
-        Reply::Failed(failing) => send_failing(&mut stream, room, *failing),
-        Reply::Answered(answer) => send_answer(alloc, &mut stream, room, answer),
-        Reply::Summed(sums) => return send_sums(alloc, most, stream, room, sums),
-    };
-    (exchange, stream)
+    match reply {
+        Reply::Failed(failing) => {
+            let exchange = send_failing(&mut stream, room, *failing);
+            (exchange, stream)
+        }
+        Reply::Answered(answer) => {
+            let exchange = send_answer(alloc, &mut stream, room, answer);
+            (exchange, stream)
+        }
+        Reply::Summed(sums) => send_sums(alloc, most, stream, room, sums),
+    }
 }

@@ -27,6 +27,16 @@ pub(crate) struct Sending<'a, T: Drop> {
     head: &'a [u8],
 }
 
+impl<T: Drop> Sending<'_, T> {
+    /// The stream, with or without the head.
+    fn into_stream(self) -> T
+        ensures { result ≡ self.entry.stream }
+    {
+        let Sending { stream, .. } = self;
+        stream
+    }
+}
+
 impl<T: Stream + Drop> TextSink for Sending<'_, T> {
     ghost use Rattle.std.specs.Prelude.{◌≡◌, ◌++◌, [], List, true, false};
     ghost use Rattle.http_exchange.specs.Streams.{Written, Writes, WentAs};
@@ -89,17 +99,19 @@ fn send_csv<T: Stream + Drop>(
     ensures none { result.0 ≡ None → result.1 ≡ stream }
 {
     let mut sending = Sending { stream, head };
-    let written = write_csv(alloc, sums, &mut sending);
-    let Sending { stream, head } = sending;
-    let mut stream = stream;
-    match written {
+    match write_csv(alloc, sums, &mut sending) {
         Ok(()) => {
+            let Sending { stream, head } = sending;
+            let mut stream = stream;
             // No text is empty, so its head has gone, and this is none.
             let exchange = send_end(&mut stream, head);
             (Some(exchange), stream)
         }
-        Err(Unwritten::Memory) => (None, stream),
-        Err(_) => (Some(Exchange::WriteFault(Status::Okay.code())), stream),
+        Err(Unwritten::Memory) => (None, sending.into_stream()),
+        Err(Unwritten::Failed(_error)) => {
+            let code = Status::Okay.code();
+            (Some(Exchange::WriteFault(code)), sending.into_stream())
+        }
     }
 }
 

@@ -9,8 +9,8 @@ returns-in-Ok-clause-done g c = record {
   answers = λ said says. (says.0, says.2, λ clean. c.in-Ok.ensures.answered says.0 says.1 clean);
 }
 
-pub returns-clause-done : goal.returns-clause-done
-returns-clause-done g c = record {
+pub returns-in-Err-clause-done : goal.returns-in-Err-clause-done
+returns-in-Err-clause-done g c = record {
   outcomes = [];
   handed = unread g.T.Stream.reads c.args.body c.args.body.stream refl;
   answers = λ said says. (c.in-Err.answer, says, λ clean. c.in-Err.ensures.answered c.in-Err.answer refl clean);
