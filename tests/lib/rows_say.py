@@ -3,7 +3,7 @@ SQLite's own library reads (docs/STORE.md). Texts are bytes."""
 from collections import Counter, defaultdict
 
 COLUMNS = {
-    "run": "run kind digest label", "run_event": "run pos name self_cost stated", "derived": "run pos name",
+    "run": "run kind digest label call_count", "run_event": "run pos name self_cost call_cost stated", "derived": "run pos name",
     "coef": "run pos event n", "name": "id bytes", "arc": "run ob fl fn cob cfl cfn part n line",
     "stack": "run frames n", "grp": "name baseline", "member": "grp run",
     "thread_cell": "run thread ob fl fn line event cost",
@@ -185,25 +185,39 @@ class Rows:
         return {run: it or {} for run, it in found.items()}
 
     def cells(self, run):
-        """Each cell of a run: its thread, object, file, function, line, column and cost."""
-        columns = len(self.head(run).events)
+        """Each cell of a run: its thread, object, file, function, line, column and cost. Those of an event sum to what
+        the row of the event says."""
+        events, sums = self.head(run).events, Counter()
         for of, thread, *places, line, event, cost in self["thread_cell"]:
             if of == run:
-                yield (number(thread), *map(self.name, places), number(line), number(event, columns), number(cost))
+                sums[number(event, len(events))] += number(cost)
+                yield number(thread), *map(self.name, places), number(line), event, cost
+        if any(sums[column] != number(row[1]) for column, row in enumerate(events)):
+            raise OutOfForm("cells and their sum")
 
     def calls(self, run):
-        """Each part of a call of a run: the caller, the called, the part and its number."""
-        columns, parts = len(self.head(run).events), Counter()
+        """Each part of a call of a run: the caller, the called, the part and its number. Those of a part sum to what the
+        rows of the run and of its events say."""
+        events, parts, sums = self.head(run).events, Counter(), Counter()
         for of, ob, fl, fn, cob, cfl, cfn, part, count, line in self["arc"]:
             if of == run:
                 caller, called = (self.name(ob), self.name(fn)), (self.name(cob), self.name(cfn))
-                parts[(self.name(fl), number(line), self.name(cfl), caller, called)] += number(part, columns + 1) == 0
-                yield caller, called, part, number(count)
+                parts[(self.name(fl), number(line), self.name(cfl), caller, called)] += number(part, len(events) + 1) == 0
+                sums[part] += number(count)
+                yield caller, called, part, count
+        counts = [row[4] for row in self["run"] if row[0] == run]
+        if any(sums[part] != number(it) for part, it in enumerate(counts + [row[2] for row in events])):
+            raise OutOfForm("calls and their sum")
         if any(count != 1 for count in parts.values()):
             raise OutOfForm("calls without a count of them")
 
     def stacks(self, run):
-        return [(blob(frames), number(count)) for of, frames, count in self["stack"] if of == run]
+        """The stacks of a run, with their counts, which sum to the samples of a folded run."""
+        found = [(blob(frames), number(count)) for of, frames, count in self["stack"] if of == run]
+        samples = sum(number(row[1]) for row in self.head(run).events) if self.kind(run) == 2 else 0
+        if sum(count for _, count in found) != samples:
+            raise OutOfForm("stacks and their sum")
+        return found
 
     def functions_of_stacks(self, run):
         """The functions of each stack, each once, and its count. An empty name is that of what has none."""
@@ -223,7 +237,7 @@ class Rows:
 def runs(rows):
     lines, found = [], {row[0]: row for row in rows["run"]}
     for run in rows.selected(None):
-        _, _, digest, label = found[run]
+        _, _, digest, label, _ = found[run]
         name = text(label)
         if len(blob(digest)) != 32 or not 1 <= len(name) <= 1024 or any(byte < 32 or byte == 127 for byte in name):
             raise OutOfForm(run)
@@ -260,7 +274,7 @@ def sums_of_columns(rows, run):
 def verified(rows, run, sums_of):
     lines = []
     for it in rows.selected(run):
-        for (name, _, stated), cost in zip(rows.head(it).events, sums_of(it)):
+        for (name, _, _, stated), cost in zip(rows.head(it).events, sums_of(it)):
             word = b"none" if stated is None else b"ok" if int(stated) == number(cost) else b"differs"
             total = b"none" if stated is None else b"%d" % int(stated)
             lines.append(b"%d %s %d %s %s\n" % (it, escaped(blob(name)), number(cost), total, word))

@@ -7,6 +7,7 @@ mod Columns
 mod Concluding
 mod HeadLists
 mod HeadTold
+mod Indexed
 mod Keeping
 pub mod NameColumns
 pub mod NumberOfName

@@ -1,5 +1,6 @@
 pub mod Among
 pub mod Finished
+pub mod Indexed
 pub mod Kept
 pub mod Meta
 pub mod Names

@@ -13,6 +13,8 @@ mod handed;
 mod heads;
 // Where the rows of runs began when they were last walked.
 mod hints;
+// Whether the indexes of the small tables have the keys of their rows (specs/Indexed.antt).
+mod indexes;
 // The cells of small runs, kept in memory (specs/Kept.antt).
 mod kept;
 // All rows of a table, read into a list.

@@ -6,6 +6,7 @@ ghost use Rattle.plain_tables.specs.Tables.{Tables};
 ghost use Rattle.run_lists.specs.Listed.{AreListed};
 ghost use Rattle.page_places.specs.Roots.{AreRoots, IsStoreOf};
 
+use crate::indexes::check_indexes;
 use crate::lists::read_lists;
 use crate::texts::find_tables;
 use page_files::PageFile;
@@ -16,7 +17,8 @@ use sqlite_disk::Disk;
 use std::alloc::Global;
 
 /// Finds the tables, and reads the small ones; and whether nothing of others stands on them. `Store` where they are not ours,
-/// or rows are out of form.
+/// rows are out of form, or the small ones do not agree with one another or with their indexes. That the indexes are looked
+/// at, no clause says; `indexes::check_keys` says what each look finds.
 fn read_store<D: Disk>(
     file: &mut PageFile<D>,
     alloc: Global,
@@ -28,6 +30,7 @@ fn read_store<D: Disk>(
     let is_alone = find_tables(file, alloc)?.is_alone()?;
     let roots = find_roots(file, alloc)?;
     let lists = read_lists(file, alloc, &roots)?;
+    check_indexes(file, alloc, &roots, &lists)?;
     Ok((roots, lists, is_alone))
 }
 
