@@ -1,4 +1,4 @@
-use Rattle.std.proofs.Common.{ℕ, List, [], ◌∷◌, ap, inl, inr}
+use Rattle.std.proofs.Common.{List, [], ◌∷◌, ap, inl, inr}
 use Rattle.std.specs.Bool.{⊤}
 use Rattle.std.specs.Option.{is_some}
 use Rattle.sqlite_btree.specs.Check.{IsUnmarked}

@@ -1,4 +1,4 @@
-use Rattle.std.proofs.Common.{◌≡◌, subst₂, to_z-of_z}
+use Rattle.std.proofs.Common.{subst₂, to_z-of_z}
 use Rattle.std.proofs.lemmas.Result.{err_from_is_err_and}
 use Rattle.sqlite_pages.proofs.Doubt.{no_doubt}
 use Rattle.sqlite_trees.specs.View.{Finds}
