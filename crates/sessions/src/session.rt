@@ -121,7 +121,8 @@ impl<'a, R: Files + AllocGlobal, W: Write + Drop, S: RunStore> TextSink for Sess
 
     ghost takes = { λ old piece new. Appends (W.contents old.out) (W.contents new.out) piece × (new.warehouse ≡ old.warehouse) × (new.status ≡ old.status) };
 
-    ghost stops = { λ old piece new. ((n : ℕ) × Appends (W.contents old.out) (W.contents new.out) (take n piece)) × (new.warehouse ≡ old.warehouse) × (new.status ≡ old.status) };
+    ghost stops = { λ old piece new. ((n : ℕ) × Appends (W.contents old.out) (W.contents new.out) (take n piece))
+        × (new.warehouse ≡ old.warehouse) × (new.status ≡ old.status) };
 
     fn take_piece(&mut self, piece: &[u8]) -> io::Result<()> {
         write_text(&mut self.out, piece)
