@@ -13,6 +13,7 @@
    COUNTS          a file into which is written at the end how many there were of each thing that FAULT names, in turn
    LOG             a file into which each change of a file of STORE is written, what is printed, and what a socket is
                    given; with how many allocations came before
+   PAUSE           so many microseconds pass before each change of a file of STORE
    ROOM            the disk is full when files of STORE have grown by so many bytes
    LOOKS           into LOG is also written where a file of STORE is read (`look`) */
 #define _GNU_SOURCE
@@ -31,7 +32,7 @@
 enum kind { ALLOCATION, READ, CHANGE, LOOK, RECEIVE, SEND, KINDS };
 
 static const char *const names[KINDS] = {"allocation", "read", "change", "look", "receive", "send"};
-static unsigned long counts[KINDS], at, most, room;
+static unsigned long counts[KINDS], at, most, room, pause_before;
 static enum kind failing = KINDS;
 static int error, is_torn, is_small, has_looks, log_file = -1;
 static const char *store, *inputs;
@@ -61,6 +62,7 @@ __attribute__((constructor)) static void begin(void)
     most = number("SHORT");
     error = number("ERROR");
     is_torn = number("TORN");
+    pause_before = number("PAUSE");
     is_small = getenv("ROOM") != NULL;
     room = number("ROOM");
     has_looks = number("LOOKS");
@@ -86,6 +88,8 @@ __attribute__((destructor)) static void end(void)
 static int fails(enum kind kind)
 {
     counts[kind]++;
+    if (kind == CHANGE && pause_before)
+        usleep(pause_before);
     if (kind != failing || counts[kind] != at)
         return 0;
     if (error == 0)
