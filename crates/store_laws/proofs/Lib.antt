@@ -1,4 +1,5 @@
 pub mod Bounds
 pub mod Columns
+pub mod HeldRuns
 pub mod RowSums
 pub mod Widths

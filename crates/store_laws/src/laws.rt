@@ -6,7 +6,9 @@ ghost use Rattle.sqlite.specs.Held.{state};
 ghost use Rattle.sqlite.specs.declared.connection.Connection.{Connection};
 ghost use Rattle.sql_tables.specs.States.{LeavesJust as Leaves};
 ghost use Rattle.sqlite.specs.Steps.{over_memory};
+ghost use Rattle.sqlite_trees.specs.Tree.{Trees};
 ghost use Rattle.sqlite_trees.specs.declared.memory.MemStore.{MemStore};
+ghost use Rattle.store_schema.specs.Tables.{Holds};
 ghost use Rattle.prof_store.specs.Schemas.{Opened};
 ghost use Rattle.plain_tables.specs.Lists.{Has};
 ghost use Rattle.plain_tables.specs.RunRows.{calls_in, cells_in, stacks_in};
@@ -14,6 +16,7 @@ ghost use Rattle.plain_tables.specs.Tables.{Tables, RunRow, EventRow, CellRow, C
 ghost use Rattle.profile_records.specs.declared.kinds.Kind.{Kind};
 ghost use Rattle.run_stores.specs.Lookups.{IsKindOf};
 ghost use Rattle.run_stores.specs.SelfSums.{events_of_run};
+ghost use Rattle.run_lists.specs.HeldRuns.{NameHeldRuns};
 ghost use Rattle.run_lists.specs.RowSums.{calls_of_run, cells_of_run, stacks_of_run, sum_of_part};
 ghost use Rattle.histories.specs.History.{History};
 ghost use Rattle.histories.specs.Marks.{IsMarked};
@@ -62,4 +65,10 @@ pub fn rows_sum_to_the_small_tables()
         → (cells_of_run r.number t k < 2 ^ 64) × (calls_of_run r.number t k < 2 ^ 64) }
     ensures placed { (h : History) (t : Tables) (r : RunRow) → TablesRepresent h t → Has t.runs r
         → AllByRecursion (λ (e : EventRow). e.place < length (events_of_run r.number t)) (events_of_run r.number t) }
+{}
+
+/// A database that holds rows by the rules of schema 2 has no run twice, and each line of a run, each member and each
+/// baseline names a run that is there: so what the small tables say of runs is no reason to refuse a sound store.
+pub fn small_tables_name_held_runs()
+    ensures { (t : Tables) (db : Trees) → Holds t db → NameHeldRuns t }
 {}
