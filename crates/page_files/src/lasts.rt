@@ -41,7 +41,11 @@ impl<D: Disk> PageFile<D> {
         ensures reads { OnlyReads self.old self.new }
         ensures usable { OnOk result (IsUsable self.new) }
     {
-        let last = last_of(&mut self.pool, alloc, root)?;
+        let last = last_of(&mut self.pool, alloc, root);
+        if let Err(Error::OutOfMemory) = last {
+            return Err(self.table_fault(alloc, root));
+        }
+        let last = last?;
         self.if_usable()?;
         Ok(last)
     }

@@ -33,6 +33,7 @@ pub asks_nothing : {P : Type 0} (old new : Loads) (store : P) → new ≡ old �
 asks_nothing old new store same = subst (λ loads. Asks old loads store store) (sym same) (Asks-refl old store)
 
 -- one load is asked for
-pub asks_once : {P : Type 0} (old new : Loads) (before after : P) → new.most ≡ old.most → new.grace ≡ old.grace → asked new ≡ asked old + 1 → Asks old new before after
+pub asks_once : {P : Type 0} (old new : Loads) (before after : P) → new.most ≡ old.most → new.grace ≡ old.grace → asked new ≡ asked old + 1
+    → Asks old new before after
 asks_once old new before after most grace one =
     record { most = most; grace = grace; more = omega (arith, one); few = within new; idle = λ same. absurd (omega (arith, one, same)) }

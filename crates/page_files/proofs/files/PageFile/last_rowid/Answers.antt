@@ -3,7 +3,21 @@ use Rattle.std.proofs.lemmas.Result.{err_from_is_err_and}
 use Rattle.sqlite_pages.proofs.Doubt.{no_doubt}
 use Rattle.page_rows.proofs.FileTables.{table_there, table_shown}
 use Rattle.page_files.specs.Lasts.{IsLastRowid}
+use Rattle.page_files.proofs.Reading.{fails_later, same_table, OnlyReads-trans}
 use Rattle.page_files.proofs.files.PageFile.last_rowid.Goals as goal
+
+pub returns-in-Err-OutOfMemory-clause-done : goal.returns-in-Err-OutOfMemory-clause-done
+returns-in-Err-OutOfMemory-clause-done g c faithful = λ wanted t shows.
+    let kept = c.last_of-last.ensures.kept in
+    fails_later c.args.self.now (record { pool = c.last_of-last.new.store; scratch = c.args.self.now.scratch }) c.table_fault.new.self c.table_fault.result kept.more_faults
+    c.table_fault.ensures.reads.keeps.stays.faults
+    (c.table_fault.ensures.done faithful wanted t (same_table c.args.self.now _ kept.same_size c.last_of-last.ensures.pages shows))
+
+pub returns-in-Err-OutOfMemory-clause-reads : goal.returns-in-Err-OutOfMemory-clause-reads
+returns-in-Err-OutOfMemory-clause-reads g c =
+    let order = c.last_of-last.ensures.kept.in_order in
+    OnlyReads-trans c.args.self.now (record { pool = c.last_of-last.new.store; scratch = c.args.self.now.scratch }) c.table_fault.new.self
+    (record { keeps = order.keeps; marks = order.marks; pages = c.last_of-last.ensures.pages }) c.table_fault.ensures.reads
 
 pub returns-in_err-last-clause-done : goal.returns-in_err-last-clause-done
 returns-in_err-last-clause-done g c faithful = λ wanted t shows.
