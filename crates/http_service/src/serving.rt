@@ -13,6 +13,7 @@ use httparse::spans::EMPTY_HEADER_SPAN;
 use matchit::Router;
 use run_stores::RunStore;
 use std::io;
+use std::io::ErrorKind;
 use std::net::{Ipv4Addr, SocketAddr, TcpListener};
 use std::rt::HostRuntime;
 use warehouse::Warehouse;
@@ -70,15 +71,10 @@ fn serve_client<'a, S: RunStore>(
     let _ended = end_client(clients, room, (connection, address), exchange);
 }
 
-/// The clients of a listener. No guarantee: of the network the checker knows nothing.
-fn clients_of<'a>(rt: &'a HostRuntime, listener: &TcpListener) -> io::Result<Clients<'a>> {
-    Clients::new(rt, listener.try_clone()?)
-}
-
 /// Answers so many clients, one at a time. False where one could not be accepted.
-pub fn serve_on<S: RunStore>(
-    rt: &HostRuntime,
-    listener: &TcpListener,
+pub fn serve_on<'a, S: RunStore>(
+    rt: &'a HostRuntime,
+    clients: &mut Clients<'a>,
     router: &Router<Place>,
     warehouse: &mut Warehouse<S>,
     requests: u32,
@@ -93,22 +89,11 @@ pub fn serve_on<S: RunStore>(
         fields: [EMPTY_HEADER_SPAN; FIELD_LIMIT],
         response: [0u8; RESPONSE_ROOM],
     };
-    let Ok(mut clients) = clients_of(rt, listener) else {
-        return false;
-    };
     'clients: for _client in 0..requests {
         let Ok(client) = clients.next(&mut room.head, &mut room.fields) else {
             return false;
         };
-        serve_client(
-            rt,
-            router,
-            warehouse,
-            &mut room,
-            &mut clients,
-            client,
-            is_logged,
-        );
+        serve_client(rt, router, warehouse, &mut room, clients, client, is_logged);
     }
     let _ended = clients.finish(&mut room.head, &mut room.fields);
     true
@@ -119,15 +104,30 @@ fn listener_at(rt: &HostRuntime, port: u16) -> io::Result<TcpListener> {
     TcpListener::bind(rt, SocketAddr::from((Ipv4Addr::LOCALHOST, port)))
 }
 
-/// Listens at a port of 127.0.0.1, and prints which; or prints that the port is taken, which is a failed read.
-/// No guarantee: as `listener_at`.
-fn listen(rt: &HostRuntime, port: u16) -> io::Result<Option<TcpListener>> {
-    let Ok(listener) = listener_at(rt, port) else {
-        println!(rt; "refused: read failed")?;
-        return Ok(None);
-    };
-    println!(rt; "listening {}", listener.local_addr()?)?;
-    Ok(Some(listener))
+/// The clients of a port of 127.0.0.1, which is then listened to. No guarantee: as `listener_at`.
+fn clients_at<'a>(rt: &'a HostRuntime, port: u16) -> io::Result<(Clients<'a>, SocketAddr)> {
+    let listener = listener_at(rt, port)?;
+    let address = listener.local_addr()?;
+    Ok((Clients::new(rt, listener)?, address))
+}
+
+/// Listens at a port of 127.0.0.1, and prints which; or prints that there is no memory, or that the port is taken, which
+/// is a failed read. No guarantee: as `listener_at`.
+fn listen<'a>(rt: &'a HostRuntime, port: u16) -> io::Result<Option<Clients<'a>>> {
+    match clients_at(rt, port) {
+        Ok((clients, address)) => {
+            println!(rt; "listening {address}")?;
+            Ok(Some(clients))
+        }
+        Err(error) if error.kind() == ErrorKind::OutOfMemory => {
+            println!(rt; "refused: out of memory")?;
+            Ok(None)
+        }
+        Err(_) => {
+            println!(rt; "refused: read failed")?;
+            Ok(None)
+        }
+    }
 }
 
 /// Prints how a server ended, and answers the status. No guarantee: of what is printed the checker knows
@@ -152,11 +152,11 @@ fn serve_by<S: RunStore>(
     ensures limits { warehouse.new.limits ≡ warehouse.old.limits }
     ensures served { IsFaithful S.StoreState warehouse.new.store → HasServed S.StoreState warehouse.old.limits service.requests warehouse.old.store warehouse.new.store }
 {
-    let Some(listener) = listen(rt, service.port)? else {
+    let Some(mut clients) = listen(rt, service.port)? else {
         return Ok(1);
     };
     let requests = service.requests;
-    let is_done = serve_on(rt, &listener, router, warehouse, requests, service.log);
+    let is_done = serve_on(rt, &mut clients, router, warehouse, requests, service.log);
     tell_end(rt, requests, is_done)
 }
 

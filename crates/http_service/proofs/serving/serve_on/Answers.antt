@@ -18,6 +18,3 @@ clients-preserved g c =
           let one = subst (λ x. HasServed g.S.StoreState x 1 mid new) i.0 (c.serve_client.ensures.served clean) in
           served_on g.S.StoreState limits c.clients._client 1 old mid new (i.1 (served_clean g.S.StoreState limits 1 mid new one clean)) one clean,
     )
-
-pub returns-in_default-clause-served : goal.returns-in_default-clause-served
-returns-in_default-clause-served g c clean = served_none g.S.StoreState c.args.warehouse.now.limits c.args.requests c.args.warehouse.now.store clean
