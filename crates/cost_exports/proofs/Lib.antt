@@ -6,7 +6,6 @@ pub mod KnownLemmas
 pub mod LineLemmas
 pub mod PieceLemmas
 pub mod ReadBackLemmas
-pub mod SinkLemmas
 pub mod SlotLemmas
 pub mod SpreadLemmas
 pub mod StackLemmas

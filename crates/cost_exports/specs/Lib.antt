@@ -1,4 +1,3 @@
 pub mod Pieces
 pub mod ReadBack
-pub mod Sinks
 pub mod Views

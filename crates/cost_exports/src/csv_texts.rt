@@ -3,7 +3,7 @@ ghost use Rattle.std.specs.Prelude.{◌≡◌, ◌≤◌, ◌++◌, ℕ, List, [
 ghost use Rattle.csv.specs.Writing.{default_writer, row_text};
 ghost use Rattle.report_texts.specs.Csv.{csv_header, csv_row, csv_rows, csv_text};
 ghost use Rattle.cost_exports.specs.Pieces.{GoesOn, IsCut, IsOn, IsOut};
-ghost use Rattle.cost_exports.specs.Sinks.{HasGone, HasGoneInPart};
+ghost use Rattle.shared_texts.specs.Sinks.{HasGone, HasGoneInPart};
 ghost use Rattle.cost_exports.specs.declared.csv_pieces.Unwritten.TheVariants.{Memory};
 ghost use Rattle.cost_exports.specs.Views.{HasWritten, held_line, held_names, placed, spot_with, sums_in};
 
@@ -13,10 +13,10 @@ use crate::csv_pieces::{Pieces, Unwritten, out_of_memory};
 use crate::held_texts::{CountedText, HeldText};
 use crate::line_costs::LineCosts;
 use crate::places::Places;
-use crate::text_sinks::TextSink;
 use cg_text::ListVec;
 use csv::Writer;
 use itoa::Buffer;
+use shared_texts::TextSink;
 use std::alloc::{AllocError, Global};
 
 /// Writes a row. Its fields are as many in each row, so memory is the only refusal.

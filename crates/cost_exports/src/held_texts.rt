@@ -1,8 +1,8 @@
 // Texts that are held, or whose bytes are counted alone, up to a length.
 ghost use Rattle.std.specs.Prelude.{◌≡◌, ◌+◌, ◌++◌, ◌≤◌, [], length};
 
-use crate::text_sinks::TextSink;
 use cg_text::ListVec;
+use shared_texts::TextSink;
 use std::alloc::Global;
 use std::io;
 use std::io::ErrorKind;

@@ -29,8 +29,6 @@ mod numbers;
 mod places;
 // Stacks with their counts (report_texts/specs/Folded.antt).
 mod stack_sums;
-// The trait of what takes a text (specs/Sinks.antt).
-mod text_sinks;
 
 pub use annotations::annotate;
 pub use cell_sums::CellSums;
@@ -44,4 +42,3 @@ pub use laws::{
 };
 pub use line_sums::LineSums;
 pub use stack_sums::StackSums;
-pub use text_sinks::TextSink;

@@ -1,7 +1,7 @@
 -- A text that is sent as it is made, behind a head.
 use Rattle.std.proofs.Common.{◌≡◌, ◌⊎◌, ◌∙◌, inl, inr, ℕ, true, false, Bool, List, [], ◌++◌, refl, sym, ap, subst, append_assoc, append-nil}
-use Rattle.cost_exports.specs.Sinks.{HasGone, HasGoneInPart}
-use Rattle.cost_exports.proofs.SinkLemmas.{gone_as}
+use Rattle.shared_texts.specs.Sinks.{HasGone, HasGoneInPart}
+use Rattle.shared_texts.proofs.SinkLemmas.{gone_as}
 use Rattle.http_exchange.specs.Streams.{HaveTaken, IsFront, Written, Writes, WentAs, bytes_written, is_stopped}
 use Rattle.http_exchange.proofs.Steps.{any_join, cut_first, went_join, written_join, wrote_join}
 use Rattle.http_exchange.specs.declared.statuses.Status.TheVariants.{Okay}

@@ -11,9 +11,10 @@ ghost use Rattle.http_exchange.specs.declared.statuses.Status.TheVariants.{Okay}
 ghost use Rattle.http_service.specs.Replies.{IsReplySent, IsSentAs};
 
 use crate::replies::{Exchange, send_answer};
-use cost_exports::{CellSums, TextSink, Unwritten, csv_length, write_csv};
+use cost_exports::{CellSums, Unwritten, csv_length, write_csv};
 use histories::{Answer, Refusal};
 use http_exchange::{RESPONSE_ROOM, Status, Stream, put_head, write_all};
+use shared_texts::TextSink;
 use std::alloc::Global;
 use std::io;
 use std::io::ErrorKind;

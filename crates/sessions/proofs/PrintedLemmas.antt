@@ -3,8 +3,8 @@ use Rattle.std.proofs.Common.{◌≡◌, ◌∙◌, inl, inr, ℕ, List, ◌++�
 use Rattle.std.specs.Io.KnownBytes.{Appends}
 use Rattle.std.proofs.KnownBytes.{Appends-nil, Appends-trans}
 use Rattle.std.proofs.Math.Seq.{take-append_seam}
-use Rattle.cost_exports.specs.Sinks.{HasGone, HasGoneInPart}
-use Rattle.cost_exports.proofs.SinkLemmas.{gone_as}
+use Rattle.shared_texts.specs.Sinks.{HasGone, HasGoneInPart}
+use Rattle.shared_texts.proofs.SinkLemmas.{gone_as}
 use Rattle.sessions.specs.declared.session.Session.{Session}
 
 -- the known bytes grew by the first bytes of a text

@@ -1,0 +1,2 @@
+pub mod SinkLemmas
+mod OnLemmas

@@ -1,0 +1,16 @@
+use Rattle.std.proofs.Common.{List, ℕ, OnErr, OnOk, subst}
+use Rattle.shared_texts.specs.Sinks.{HasGone, HasGoneInPart}
+use Rattle.shared_texts.proofs.OnLemmas.{one_gone, one_stopped}
+use Rattle.shared_texts.proofs.texts.SharedText.write.Goals as goal
+
+pub returns-in-Some-clause-whole : goal.returns-in-Some-clause-whole
+returns-in-Some-clause-whole g c =
+    let to = c.take_piece.new.self in
+    subst (λ (l : List ℕ). OnOk c.take_piece.result (HasGone g.W.TextSink.takes c.args.out.now l to)) c.in-Some.ensures
+    (one_gone g.W.TextSink.takes g.W.TextSink.stops c.take_piece.result c.args.out.now to c.in-Some.bytes.now c.take_piece.ensures)
+
+pub returns-in-Some-clause-part : goal.returns-in-Some-clause-part
+returns-in-Some-clause-part g c =
+    let to = c.take_piece.new.self in
+    subst (λ (l : List ℕ). OnErr c.take_piece.result (HasGoneInPart g.W.TextSink.takes g.W.TextSink.stops c.args.out.now l to)) c.in-Some.ensures
+    (one_stopped g.W.TextSink.takes g.W.TextSink.stops c.take_piece.result c.args.out.now to c.in-Some.bytes.now c.take_piece.ensures)

@@ -1,0 +1,4 @@
+pub mod Gone
+pub mod Parts
+pub mod Sinks
+pub mod Written

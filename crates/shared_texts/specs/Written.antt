@@ -1,0 +1,8 @@
+-- A text that is made.
+use Rattle.std.specs.Prelude.{ℕ, List}
+use Rattle.shared_texts.specs.Parts.{text_of}
+use Rattle.shared_texts.specs.declared.writers.TextWriter.{TextWriter}
+
+-- what was written so far
+abbrev pub written : TextWriter → List ℕ
+written text = text_of text.parts.items text.bytes.items
