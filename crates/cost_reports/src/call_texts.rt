@@ -1,18 +1,18 @@
 // The text of a report of calls.
 ghost use Rattle.std.specs.Prelude.{◌≡◌, ◌++◌, ◌≤◌, OnOk, IfOk, codes, length};
 ghost use Rattle.report_texts.specs.Calls.{side_name, pair_text, call_line, call_row_text, call_lines, call_head, call_report_text};
+ghost use Rattle.shared_texts.specs.Written.{GoesOn};
 ghost use Rattle.cost_reports.specs.Rows.{lent_place, plain_call, plain_calls};
 
 use crate::call_reports::CallReport;
 use crate::key_texts::push_part;
-use crate::lengths::{check_length, whole_text};
 use crate::numbers::push_number;
 use crate::places::LentPlace;
 use crate::rows::CallRow;
 use byte_io::push_escaped;
-use cg_text::ListVec;
 use cost_rows::Key;
 use report_texts::{CallSide, Pair};
+use shared_texts::{SharedText, TextWriter};
 use std::alloc::{AllocError, Global};
 
 fn side_name(side: CallSide) -> &'static [u8]
@@ -45,59 +45,59 @@ fn push_total(text: &mut Vec<u8>, calls: Pair) -> Result<(), AllocError>
 }
 
 /// Adds the line of a row.
-fn push_row(text: &mut Vec<u8>, row: &CallRow<'_>) -> Result<(), AllocError>
-    ensures { OnOk result (text.new.items ≡ text.old.items ++ call_row_text (plain_call row.now)) }
+fn push_row<'n>(text: &mut TextWriter<'n>, row: &CallRow<'n>) -> Result<(), AllocError>
+    ensures { OnOk result (GoesOn text.old text.new (call_row_text (plain_call row.now))) }
 {
     let calls = Pair {
         first: row.cost.0,
         second: row.count,
     };
-    push_pair(text, calls)?;
-    text.push(b' ')?;
+    push_pair(&mut text.bytes, calls)?;
+    text.bytes.push(b' ')?;
     push_part(text, Key::Function, &row.place)?;
-    text.push(b'\n')?;
+    text.bytes.push(b'\n')?;
     Ok(())
 }
 
-/// Adds the lines of rows, as long as the text has at most `most` bytes.
-fn push_rows(text: &mut Vec<u8>, rows: &[CallRow<'_>], most: usize) -> Result<(), AllocError>
-    ensures { OnOk result (text.new.items ≡ text.old.items ++ call_lines (plain_calls rows.now)) }
+/// Adds the lines of rows, as long as the text is no longer than it may be.
+fn push_rows<'n>(text: &mut TextWriter<'n>, rows: &[CallRow<'n>]) -> Result<(), AllocError>
+    ensures { OnOk result (GoesOn text.old text.new (call_lines (plain_calls rows.now))) }
 {
     for row in rows {
         push_row(text, row)?;
-        check_length(text.len(), most)?;
+        text.check_length()?;
     }
     Ok(())
 }
 
 /// Adds whose calls they are, and of which event.
-fn push_head(
-    text: &mut Vec<u8>,
+fn push_head<'n>(
+    text: &mut TextWriter<'n>,
     side: CallSide,
     event: &[u8],
-    function: &LentPlace<'_>,
+    function: &LentPlace<'n>,
 ) -> Result<(), AllocError>
-    ensures { OnOk result (text.new.items ≡ text.old.items ++ call_head side event.now (lent_place function.now)) }
+    ensures { OnOk result (GoesOn text.old text.new (call_head side event.now (lent_place function.now))) }
 {
-    text.extend_from_slice(side_name(side))?;
-    text.push(b' ')?;
-    push_escaped(text, event)?;
-    text.push(b' ')?;
+    text.bytes.extend_from_slice(side_name(side))?;
+    text.bytes.push(b' ')?;
+    push_escaped(&mut text.bytes, event)?;
+    text.bytes.push(b' ')?;
     push_part(text, Key::Function, function)?;
-    text.push(b'\n')?;
+    text.bytes.push(b'\n')?;
     Ok(())
 }
 
 impl CallReport<'_> {
     /// The lines of the calls of an event, of at most `most` bytes, as `Report::text`.
-    pub fn text(&self, alloc: Global, most: usize, event: &[u8]) -> Result<ListVec<u8>, AllocError>
+    pub fn text(&self, alloc: Global, most: usize, event: &[u8]) -> Result<SharedText, AllocError>
         ensures text { IfOk result (λ text. text ≡ call_report_text event.now self.now) }
         ensures short { IfOk result (λ text. length text ≤ most) }
     {
-        let mut text = Vec::new(alloc);
+        let mut text = TextWriter::new(alloc, most);
         push_head(&mut text, self.side, event, &self.function)?;
-        push_total(&mut text, self.total)?;
-        push_rows(&mut text, &self.rows, most)?;
-        whole_text(text, most)
+        push_total(&mut text.bytes, self.total)?;
+        push_rows(&mut text, &self.rows)?;
+        text.finish()
     }
 }

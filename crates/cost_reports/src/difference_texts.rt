@@ -1,46 +1,49 @@
 // The text of a difference.
 ghost use Rattle.std.specs.Prelude.{◌≡◌, ◌++◌, ◌≤◌, OnOk, IfOk, length};
 ghost use Rattle.report_texts.specs.Differences.{difference_line, difference_lines, difference_head, difference_text};
+ghost use Rattle.shared_texts.specs.Written.{GoesOn};
 ghost use Rattle.cost_reports.specs.Rows.{plain_difference, plain_differences};
 
 use crate::differences::Difference;
 use crate::key_texts::{key_name, push_part};
-use crate::lengths::{check_length, whole_text};
 use crate::rows::DifferenceRow;
 use crate::signed::push_signed;
 use byte_io::push_escaped;
-use cg_text::ListVec;
 use cost_rows::Key;
 use report_texts::Signed;
+use shared_texts::{SharedText, TextWriter};
 use std::alloc::{AllocError, Global};
 
 /// Adds the line of a row.
-fn push_row(text: &mut Vec<u8>, key: Key, row: &DifferenceRow<'_>) -> Result<(), AllocError>
-    ensures { OnOk result (text.new.items ≡ text.old.items ++ difference_line key (plain_difference row.now)) }
+fn push_row<'n>(
+    text: &mut TextWriter<'n>,
+    key: Key,
+    row: &DifferenceRow<'n>,
+) -> Result<(), AllocError>
+    ensures { OnOk result (GoesOn text.old text.new (difference_line key (plain_difference row.now))) }
 {
     let difference = Signed {
         size: row.size.0,
         below: row.below,
     };
-    push_signed(text, difference)?;
-    text.push(b' ')?;
+    push_signed(&mut text.bytes, difference)?;
+    text.bytes.push(b' ')?;
     push_part(text, key, &row.place)?;
-    text.push(b'\n')?;
+    text.bytes.push(b'\n')?;
     Ok(())
 }
 
-/// Adds the lines of rows, as long as the text has at most `most` bytes.
-fn push_rows(
-    text: &mut Vec<u8>,
+/// Adds the lines of rows, as long as the text is no longer than it may be.
+fn push_rows<'n>(
+    text: &mut TextWriter<'n>,
     key: Key,
-    rows: &[DifferenceRow<'_>],
-    most: usize,
+    rows: &[DifferenceRow<'n>],
 ) -> Result<(), AllocError>
-    ensures { OnOk result (text.new.items ≡ text.old.items ++ difference_lines key (plain_differences rows.now)) }
+    ensures { OnOk result (GoesOn text.old text.new (difference_lines key (plain_differences rows.now))) }
 {
     for row in rows {
         push_row(text, key, row)?;
-        check_length(text.len(), most)?;
+        text.check_length()?;
     }
     Ok(())
 }
@@ -59,15 +62,15 @@ fn push_head(text: &mut Vec<u8>, key: Key, event: &[u8]) -> Result<(), AllocErro
 
 impl Difference<'_> {
     /// The lines of the difference of an event, of at most `most` bytes, as `Report::text`.
-    pub fn text(&self, alloc: Global, most: usize, event: &[u8]) -> Result<ListVec<u8>, AllocError>
+    pub fn text(&self, alloc: Global, most: usize, event: &[u8]) -> Result<SharedText, AllocError>
         ensures text { IfOk result (λ text. text ≡ difference_text event.now self.now) }
         ensures short { IfOk result (λ text. length text ≤ most) }
     {
-        let mut text = Vec::new(alloc);
-        push_head(&mut text, self.key, event)?;
-        push_signed(&mut text, self.total)?;
-        text.extend_from_slice(b" total\n")?;
-        push_rows(&mut text, self.key, &self.rows, most)?;
-        whole_text(text, most)
+        let mut text = TextWriter::new(alloc, most);
+        push_head(&mut text.bytes, self.key, event)?;
+        push_signed(&mut text.bytes, self.total)?;
+        text.bytes.extend_from_slice(b" total\n")?;
+        push_rows(&mut text, self.key, &self.rows)?;
+        text.finish()
     }
 }

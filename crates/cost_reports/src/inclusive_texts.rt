@@ -4,10 +4,9 @@ ghost use Rattle.report_texts.specs.Inclusive.{inclusive_head, inclusive_text};
 
 use crate::inclusives::InclusiveReport;
 use crate::key_texts::{push_rows, push_sum};
-use crate::lengths::whole_text;
 use byte_io::push_escaped;
-use cg_text::ListVec;
 use cost_rows::Key;
+use shared_texts::{SharedText, TextWriter};
 use std::alloc::{AllocError, Global};
 
 /// Adds of which event the costs are.
@@ -22,14 +21,14 @@ fn push_head(text: &mut Vec<u8>, event: &[u8]) -> Result<(), AllocError>
 
 impl InclusiveReport<'_> {
     /// The lines of the inclusive costs of an event, of at most `most` bytes, as `Report::text`.
-    pub fn text(&self, alloc: Global, most: usize, event: &[u8]) -> Result<ListVec<u8>, AllocError>
+    pub fn text(&self, alloc: Global, most: usize, event: &[u8]) -> Result<SharedText, AllocError>
         ensures text { IfOk result (λ text. text ≡ inclusive_text event.now self.now) }
         ensures short { IfOk result (λ text. length text ≤ most) }
     {
-        let mut text = Vec::new(alloc);
-        push_head(&mut text, event)?;
-        push_sum(&mut text, self.total, self.total, b"total")?;
-        push_rows(&mut text, Key::Function, self.total, &self.rows, most)?;
-        whole_text(text, most)
+        let mut text = TextWriter::new(alloc, most);
+        push_head(&mut text.bytes, event)?;
+        push_sum(&mut text.bytes, self.total, self.total, b"total")?;
+        push_rows(&mut text, Key::Function, self.total, &self.rows)?;
+        text.finish()
     }
 }

@@ -2,17 +2,17 @@
 ghost use Rattle.std.specs.Prelude.{◌≡◌, ◌++◌, ◌<◌, ◌≤◌, ◌^◌, OnOk, IfOk, length};
 ghost use Rattle.cost_rows.specs.KeySums.{total_of};
 ghost use Rattle.report_texts.specs.KeyTexts.{key_name, part_text, cost_text, cost_line, row_text, rows_text, head_text, key_report_text};
+ghost use Rattle.shared_texts.specs.Written.{GoesOn};
 ghost use Rattle.cost_reports.specs.Rows.{lent_place, plain_row, plain_rows};
 
 use crate::key_reports::Report;
-use crate::lengths::{check_length, whole_text};
 use crate::numbers::push_number;
 use crate::percents::push_percent;
 use crate::places::LentPlace;
 use crate::rows::Row;
 use byte_io::push_escaped;
-use cg_text::ListVec;
 use cost_rows::Key;
+use shared_texts::{SharedText, TextWriter};
 use std::alloc::{AllocError, Global};
 
 pub(crate) fn key_name(key: Key) -> &'static [u8]
@@ -28,27 +28,27 @@ pub(crate) fn key_name(key: Key) -> &'static [u8]
 }
 
 /// Adds the part of a place that a key tells.
-pub(crate) fn push_part(
-    text: &mut Vec<u8>,
+pub(crate) fn push_part<'n>(
+    text: &mut TextWriter<'n>,
     key: Key,
-    place: &LentPlace<'_>,
+    place: &LentPlace<'n>,
 ) -> Result<(), AllocError>
-    ensures { OnOk result (text.new.items ≡ text.old.items ++ part_text key (lent_place place.now)) }
+    ensures { OnOk result (GoesOn text.old text.new (part_text key (lent_place place.now))) }
 {
     match key {
-        Key::Object => push_escaped(text, place.object)?,
-        Key::File => push_escaped(text, place.file)?,
+        Key::Object => text.push_name(place.object)?,
+        Key::File => text.push_name(place.file)?,
         Key::Function => {
-            push_escaped(text, place.object)?;
-            text.push(b':')?;
-            push_escaped(text, place.function)?;
+            text.push_name(place.object)?;
+            text.bytes.push(b':')?;
+            text.push_name(place.function)?;
         }
         Key::Line => {
-            push_escaped(text, place.file)?;
-            text.push(b':')?;
-            push_number(text, u128::from(place.line))?;
+            text.push_name(place.file)?;
+            text.bytes.push(b':')?;
+            push_number(&mut text.bytes, u128::from(place.line))?;
         }
-        Key::Thread => push_number(text, u128::from(place.thread))?,
+        Key::Thread => push_number(&mut text.bytes, u128::from(place.thread))?,
     }
     Ok(())
 }
@@ -82,31 +82,35 @@ pub(crate) fn push_sum(
 }
 
 /// Adds the line of a row.
-fn push_row(text: &mut Vec<u8>, key: Key, total: u128, row: &Row<'_>) -> Result<(), AllocError>
+fn push_row<'n>(
+    text: &mut TextWriter<'n>,
+    key: Key,
+    total: u128,
+    row: &Row<'n>,
+) -> Result<(), AllocError>
     requires { (plain_row row.now).1 < 2 ^ 112 }
-    ensures { OnOk result (text.new.items ≡ text.old.items ++ row_text key total (plain_row row.now)) }
+    ensures { OnOk result (GoesOn text.old text.new (row_text key total (plain_row row.now))) }
 {
-    push_cost(text, row.cost.0, total)?;
-    text.push(b' ')?;
+    push_cost(&mut text.bytes, row.cost.0, total)?;
+    text.bytes.push(b' ')?;
     push_part(text, key, &row.place)?;
-    text.push(b'\n')?;
+    text.bytes.push(b'\n')?;
     Ok(())
 }
 
-/// Adds the lines of rows, as long as the text has at most `most` bytes.
-pub(crate) fn push_rows(
-    text: &mut Vec<u8>,
+/// Adds the lines of rows, as long as the text is no longer than it may be.
+pub(crate) fn push_rows<'n>(
+    text: &mut TextWriter<'n>,
     key: Key,
     total: u128,
-    rows: &[Row<'_>],
-    most: usize,
+    rows: &[Row<'n>],
 ) -> Result<(), AllocError>
     requires { total_of (plain_rows rows.now) < 2 ^ 112 }
-    ensures { OnOk result (text.new.items ≡ text.old.items ++ rows_text key total (plain_rows rows.now)) }
+    ensures { OnOk result (GoesOn text.old text.new (rows_text key total (plain_rows rows.now))) }
 {
     for row in rows {
         push_row(text, key, total, row)?;
-        check_length(text.len(), most)?;
+        text.check_length()?;
     }
     Ok(())
 }
@@ -126,15 +130,15 @@ fn push_head(text: &mut Vec<u8>, key: Key, event: &[u8]) -> Result<(), AllocErro
 impl Report<'_> {
     /// The lines of the report of an event. A text of more than `most` bytes is refused as one that there is no memory
     /// for.
-    pub fn text(&self, alloc: Global, most: usize, event: &[u8]) -> Result<ListVec<u8>, AllocError>
+    pub fn text(&self, alloc: Global, most: usize, event: &[u8]) -> Result<SharedText, AllocError>
         ensures text { IfOk result (λ text. text ≡ key_report_text event.now self.now) }
         ensures short { IfOk result (λ text. length text ≤ most) }
     {
-        let mut text = Vec::new(alloc);
-        push_head(&mut text, self.key, event)?;
-        push_sum(&mut text, self.total, self.total, b"total")?;
-        push_rows(&mut text, self.key, self.total, &self.rows, most)?;
-        push_sum(&mut text, self.rest, self.total, b"(rest)")?;
-        whole_text(text, most)
+        let mut text = TextWriter::new(alloc, most);
+        push_head(&mut text.bytes, self.key, event)?;
+        push_sum(&mut text.bytes, self.total, self.total, b"total")?;
+        push_rows(&mut text, self.key, self.total, &self.rows)?;
+        push_sum(&mut text.bytes, self.rest, self.total, b"(rest)")?;
+        text.finish()
     }
 }

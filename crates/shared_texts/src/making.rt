@@ -1,7 +1,7 @@
 // A text that is made.
 ghost use Rattle.std.specs.Prelude.{◌≡◌, ◌+◌, ◌++◌, ◌≤◌, [], length, IfOk, IfSome, OnOk};
 ghost use Rattle.byte_io.specs.Escapes.{escaped};
-ghost use Rattle.shared_texts.specs.Written.{written};
+ghost use Rattle.shared_texts.specs.Written.{GoesOn, written};
 
 use crate::parts::{Part, Printed};
 use crate::texts::SharedText;
@@ -93,8 +93,7 @@ impl<'n> TextWriter<'n> {
 
     /// Ends a part of the text with a name.
     fn end_part(&mut self, name: Rc<Vec<u8>>) -> Result<(), AllocError>
-        ensures written { OnOk result (written self.new ≡ written self.old ++ name.value.items) }
-        ensures most { self.new.most ≡ self.old.most }
+        ensures { OnOk result (GoesOn self.old self.new name.value.items) }
     {
         let Some(count) = self.count() else {
             return Err(AllocError);
@@ -111,8 +110,7 @@ impl<'n> TextWriter<'n> {
 
     /// Adds a name as it is printed: on one line.
     pub fn push_name(&mut self, name: &'n [u8]) -> Result<(), AllocError>
-        ensures written { OnOk result (written self.new ≡ written self.old ++ escaped name.now) }
-        ensures most { self.new.most ≡ self.old.most }
+        ensures { OnOk result (GoesOn self.old self.new (escaped name.now)) }
     {
         if name.len() < LONG {
             return push_escaped(&mut self.bytes, name);
