@@ -1,5 +1,5 @@
 // The text of a report of calls.
-ghost use Rattle.std.specs.Prelude.{◌≡◌, ◌++◌, ◌≤◌, OnOk, IfOk, codes, length};
+ghost use Rattle.std.specs.Prelude.{◌≡◌, ◌≤◌, OnOk, IfOk, codes, length};
 ghost use Rattle.report_texts.specs.Calls.{side_name, pair_text, call_line, call_row_text, call_lines, call_head, call_report_text};
 ghost use Rattle.shared_texts.specs.Written.{GoesOn};
 ghost use Rattle.cost_reports.specs.Rows.{lent_place, plain_call, plain_calls};
@@ -9,7 +9,6 @@ use crate::key_texts::push_part;
 use crate::numbers::push_number;
 use crate::places::LentPlace;
 use crate::rows::CallRow;
-use byte_io::push_escaped;
 use cost_rows::Key;
 use report_texts::{CallSide, Pair};
 use shared_texts::{SharedText, TextWriter};
@@ -25,22 +24,22 @@ fn side_name(side: CallSide) -> &'static [u8]
 }
 
 /// Adds what calls cost, and how many there were.
-fn push_pair(text: &mut Vec<u8>, calls: Pair) -> Result<(), AllocError>
-    ensures { OnOk result (text.new.items ≡ text.old.items ++ pair_text calls) }
+fn push_pair(text: &mut TextWriter<'_>, calls: Pair) -> Result<(), AllocError>
+    ensures { OnOk result (GoesOn text.old text.new (pair_text calls)) }
 {
-    push_number(text, calls.first)?;
-    text.push(b' ')?;
-    push_number(text, calls.second)?;
+    push_number(&mut text.bytes, calls.first)?;
+    text.bytes.push(b' ')?;
+    push_number(&mut text.bytes, calls.second)?;
     Ok(())
 }
 
 /// Adds the line of all calls.
-fn push_total(text: &mut Vec<u8>, calls: Pair) -> Result<(), AllocError>
-    ensures { OnOk result (text.new.items ≡ text.old.items ++ call_line calls (codes "total")) }
+fn push_total(text: &mut TextWriter<'_>, calls: Pair) -> Result<(), AllocError>
+    ensures { OnOk result (GoesOn text.old text.new (call_line calls (codes "total"))) }
 {
     push_pair(text, calls)?;
     text.push(b' ')?;
-    text.extend_from_slice(b"total\n")?;
+    text.push_bytes(b"total\n")?;
     Ok(())
 }
 
@@ -52,10 +51,10 @@ fn push_row<'n>(text: &mut TextWriter<'n>, row: &CallRow<'n>) -> Result<(), Allo
         first: row.cost.0,
         second: row.count,
     };
-    push_pair(&mut text.bytes, calls)?;
-    text.bytes.push(b' ')?;
+    push_pair(text, calls)?;
+    text.push(b' ')?;
     push_part(text, Key::Function, &row.place)?;
-    text.bytes.push(b'\n')?;
+    text.push(b'\n')?;
     Ok(())
 }
 
@@ -79,12 +78,12 @@ fn push_head<'n>(
 ) -> Result<(), AllocError>
     ensures { OnOk result (GoesOn text.old text.new (call_head side event.now (lent_place function.now))) }
 {
-    text.bytes.extend_from_slice(side_name(side))?;
-    text.bytes.push(b' ')?;
-    push_escaped(&mut text.bytes, event)?;
-    text.bytes.push(b' ')?;
+    text.push_bytes(side_name(side))?;
+    text.push(b' ')?;
+    text.push_escaped(event)?;
+    text.push(b' ')?;
     push_part(text, Key::Function, function)?;
-    text.bytes.push(b'\n')?;
+    text.push(b'\n')?;
     Ok(())
 }
 
@@ -96,7 +95,7 @@ impl CallReport<'_> {
     {
         let mut text = TextWriter::new(alloc, most);
         push_head(&mut text, self.side, event, &self.function)?;
-        push_total(&mut text.bytes, self.total)?;
+        push_total(&mut text, self.total)?;
         push_rows(&mut text, &self.rows)?;
         text.finish()
     }

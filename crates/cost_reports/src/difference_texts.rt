@@ -1,5 +1,5 @@
 // The text of a difference.
-ghost use Rattle.std.specs.Prelude.{◌≡◌, ◌++◌, ◌≤◌, OnOk, IfOk, length};
+ghost use Rattle.std.specs.Prelude.{◌≡◌, ◌≤◌, OnOk, IfOk, length};
 ghost use Rattle.report_texts.specs.Differences.{difference_line, difference_lines, difference_head, difference_text};
 ghost use Rattle.shared_texts.specs.Written.{GoesOn};
 ghost use Rattle.cost_reports.specs.Rows.{plain_difference, plain_differences};
@@ -8,11 +8,17 @@ use crate::differences::Difference;
 use crate::key_texts::{key_name, push_part};
 use crate::rows::DifferenceRow;
 use crate::signed::push_signed;
-use byte_io::push_escaped;
 use cost_rows::Key;
 use report_texts::Signed;
 use shared_texts::{SharedText, TextWriter};
 use std::alloc::{AllocError, Global};
+
+/// Adds a difference.
+fn push_difference(text: &mut TextWriter<'_>, difference: Signed) -> Result<(), AllocError>
+    ensures { OnOk result (GoesOn text.old text.new (signed_text difference)) }
+{
+    push_signed(&mut text.bytes, difference)
+}
 
 /// Adds the line of a row.
 fn push_row<'n>(
@@ -26,10 +32,10 @@ fn push_row<'n>(
         size: row.size.0,
         below: row.below,
     };
-    push_signed(&mut text.bytes, difference)?;
-    text.bytes.push(b' ')?;
+    push_difference(text, difference)?;
+    text.push(b' ')?;
     push_part(text, key, &row.place)?;
-    text.bytes.push(b'\n')?;
+    text.push(b'\n')?;
     Ok(())
 }
 
@@ -49,13 +55,13 @@ fn push_rows<'n>(
 }
 
 /// Adds what the difference is by, and of which event.
-fn push_head(text: &mut Vec<u8>, key: Key, event: &[u8]) -> Result<(), AllocError>
-    ensures { OnOk result (text.new.items ≡ text.old.items ++ difference_head key event.now) }
+fn push_head(text: &mut TextWriter<'_>, key: Key, event: &[u8]) -> Result<(), AllocError>
+    ensures { OnOk result (GoesOn text.old text.new (difference_head key event.now)) }
 {
-    text.extend_from_slice(b"subtract ")?;
-    text.extend_from_slice(key_name(key))?;
+    text.push_bytes(b"subtract ")?;
+    text.push_bytes(key_name(key))?;
     text.push(b' ')?;
-    push_escaped(text, event)?;
+    text.push_escaped(event)?;
     text.push(b'\n')?;
     Ok(())
 }
@@ -67,9 +73,9 @@ impl Difference<'_> {
         ensures short { IfOk result (λ text. length text ≤ most) }
     {
         let mut text = TextWriter::new(alloc, most);
-        push_head(&mut text.bytes, self.key, event)?;
-        push_signed(&mut text.bytes, self.total)?;
-        text.bytes.extend_from_slice(b" total\n")?;
+        push_head(&mut text, self.key, event)?;
+        push_difference(&mut text, self.total)?;
+        text.push_bytes(b" total\n")?;
         push_rows(&mut text, self.key, &self.rows)?;
         text.finish()
     }

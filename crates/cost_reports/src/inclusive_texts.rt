@@ -1,20 +1,20 @@
 // The text of inclusive costs.
-ghost use Rattle.std.specs.Prelude.{◌≡◌, ◌++◌, ◌≤◌, OnOk, IfOk, length};
+ghost use Rattle.std.specs.Prelude.{◌≡◌, ◌≤◌, OnOk, IfOk, length};
 ghost use Rattle.report_texts.specs.Inclusive.{inclusive_head, inclusive_text};
+ghost use Rattle.shared_texts.specs.Written.{GoesOn};
 
 use crate::inclusives::InclusiveReport;
 use crate::key_texts::{push_rows, push_sum};
-use byte_io::push_escaped;
 use cost_rows::Key;
 use shared_texts::{SharedText, TextWriter};
 use std::alloc::{AllocError, Global};
 
 /// Adds of which event the costs are.
-fn push_head(text: &mut Vec<u8>, event: &[u8]) -> Result<(), AllocError>
-    ensures { OnOk result (text.new.items ≡ text.old.items ++ inclusive_head event.now) }
+fn push_head(text: &mut TextWriter<'_>, event: &[u8]) -> Result<(), AllocError>
+    ensures { OnOk result (GoesOn text.old text.new (inclusive_head event.now)) }
 {
-    text.extend_from_slice(b"inclusive ")?;
-    push_escaped(text, event)?;
+    text.push_bytes(b"inclusive ")?;
+    text.push_escaped(event)?;
     text.push(b'\n')?;
     Ok(())
 }
@@ -26,8 +26,8 @@ impl InclusiveReport<'_> {
         ensures short { IfOk result (λ text. length text ≤ most) }
     {
         let mut text = TextWriter::new(alloc, most);
-        push_head(&mut text.bytes, event)?;
-        push_sum(&mut text.bytes, self.total, self.total, b"total")?;
+        push_head(&mut text, event)?;
+        push_sum(&mut text, self.total, self.total, b"total")?;
         push_rows(&mut text, Key::Function, self.total, &self.rows)?;
         text.finish()
     }

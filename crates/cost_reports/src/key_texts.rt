@@ -1,5 +1,6 @@
 // The text of a report by key.
-ghost use Rattle.std.specs.Prelude.{◌≡◌, ◌++◌, ◌<◌, ◌≤◌, ◌^◌, OnOk, IfOk, length};
+ghost use Rattle.std.specs.Fmt.{decimal};
+ghost use Rattle.std.specs.Prelude.{◌≡◌, ◌<◌, ◌≤◌, ◌^◌, OnOk, IfOk, length};
 ghost use Rattle.cost_rows.specs.KeySums.{total_of};
 ghost use Rattle.report_texts.specs.KeyTexts.{key_name, part_text, cost_text, cost_line, row_text, rows_text, head_text, key_report_text};
 ghost use Rattle.shared_texts.specs.Written.{GoesOn};
@@ -10,7 +11,6 @@ use crate::numbers::push_number;
 use crate::percents::push_percent;
 use crate::places::LentPlace;
 use crate::rows::Row;
-use byte_io::push_escaped;
 use cost_rows::Key;
 use shared_texts::{SharedText, TextWriter};
 use std::alloc::{AllocError, Global};
@@ -27,6 +27,13 @@ pub(crate) fn key_name(key: Key) -> &'static [u8]
     }
 }
 
+/// Adds a number.
+fn push_count(text: &mut TextWriter<'_>, count: u64) -> Result<(), AllocError>
+    ensures { OnOk result (GoesOn text.old text.new (decimal count)) }
+{
+    push_number(&mut text.bytes, u128::from(count))
+}
+
 /// Adds the part of a place that a key tells.
 pub(crate) fn push_part<'n>(
     text: &mut TextWriter<'n>,
@@ -40,43 +47,43 @@ pub(crate) fn push_part<'n>(
         Key::File => text.push_name(place.file)?,
         Key::Function => {
             text.push_name(place.object)?;
-            text.bytes.push(b':')?;
+            text.push(b':')?;
             text.push_name(place.function)?;
         }
         Key::Line => {
             text.push_name(place.file)?;
-            text.bytes.push(b':')?;
-            push_number(&mut text.bytes, u128::from(place.line))?;
+            text.push(b':')?;
+            push_count(text, place.line)?;
         }
-        Key::Thread => push_number(&mut text.bytes, u128::from(place.thread))?,
+        Key::Thread => push_count(text, place.thread)?,
     }
     Ok(())
 }
 
 /// Adds a cost and its part of the total.
-fn push_cost(text: &mut Vec<u8>, cost: u128, total: u128) -> Result<(), AllocError>
+fn push_cost(text: &mut TextWriter<'_>, cost: u128, total: u128) -> Result<(), AllocError>
     requires { cost < 2 ^ 112 }
-    ensures { OnOk result (text.new.items ≡ text.old.items ++ cost_text cost total) }
+    ensures { OnOk result (GoesOn text.old text.new (cost_text cost total)) }
 {
-    push_number(text, cost)?;
-    text.push(b' ')?;
-    push_percent(text, cost, total)?;
+    push_number(&mut text.bytes, cost)?;
+    text.bytes.push(b' ')?;
+    push_percent(&mut text.bytes, cost, total)?;
     Ok(())
 }
 
 /// Adds the line of a cost that is of no part of a place.
 pub(crate) fn push_sum(
-    text: &mut Vec<u8>,
+    text: &mut TextWriter<'_>,
     cost: u128,
     total: u128,
     name: &[u8],
 ) -> Result<(), AllocError>
     requires { cost < 2 ^ 112 }
-    ensures { OnOk result (text.new.items ≡ text.old.items ++ cost_line cost total name.now) }
+    ensures { OnOk result (GoesOn text.old text.new (cost_line cost total name.now)) }
 {
     push_cost(text, cost, total)?;
     text.push(b' ')?;
-    text.extend_from_slice(name)?;
+    text.push_bytes(name)?;
     text.push(b'\n')?;
     Ok(())
 }
@@ -91,10 +98,10 @@ fn push_row<'n>(
     requires { (plain_row row.now).1 < 2 ^ 112 }
     ensures { OnOk result (GoesOn text.old text.new (row_text key total (plain_row row.now))) }
 {
-    push_cost(&mut text.bytes, row.cost.0, total)?;
-    text.bytes.push(b' ')?;
+    push_cost(text, row.cost.0, total)?;
+    text.push(b' ')?;
     push_part(text, key, &row.place)?;
-    text.bytes.push(b'\n')?;
+    text.push(b'\n')?;
     Ok(())
 }
 
@@ -116,13 +123,13 @@ pub(crate) fn push_rows<'n>(
 }
 
 /// Adds what the report is by, and of which event.
-fn push_head(text: &mut Vec<u8>, key: Key, event: &[u8]) -> Result<(), AllocError>
-    ensures { OnOk result (text.new.items ≡ text.old.items ++ head_text key event.now) }
+fn push_head(text: &mut TextWriter<'_>, key: Key, event: &[u8]) -> Result<(), AllocError>
+    ensures { OnOk result (GoesOn text.old text.new (head_text key event.now)) }
 {
-    text.extend_from_slice(b"by ")?;
-    text.extend_from_slice(key_name(key))?;
+    text.push_bytes(b"by ")?;
+    text.push_bytes(key_name(key))?;
     text.push(b' ')?;
-    push_escaped(text, event)?;
+    text.push_escaped(event)?;
     text.push(b'\n')?;
     Ok(())
 }
@@ -135,10 +142,10 @@ impl Report<'_> {
         ensures short { IfOk result (λ text. length text ≤ most) }
     {
         let mut text = TextWriter::new(alloc, most);
-        push_head(&mut text.bytes, self.key, event)?;
-        push_sum(&mut text.bytes, self.total, self.total, b"total")?;
+        push_head(&mut text, self.key, event)?;
+        push_sum(&mut text, self.total, self.total, b"total")?;
         push_rows(&mut text, self.key, self.total, &self.rows)?;
-        push_sum(&mut text.bytes, self.rest, self.total, b"(rest)")?;
+        push_sum(&mut text, self.rest, self.total, b"(rest)")?;
         text.finish()
     }
 }

@@ -1,5 +1,5 @@
 // A text that is made.
-ghost use Rattle.std.specs.Prelude.{◌≡◌, ◌+◌, ◌++◌, ◌≤◌, [], length, IfOk, IfSome, OnOk};
+ghost use Rattle.std.specs.Prelude.{◌≡◌, ◌+◌, ◌++◌, ◌≤◌, ◌∷◌, [], length, IfOk, IfSome, OnOk};
 ghost use Rattle.byte_io.specs.Escapes.{escaped};
 ghost use Rattle.shared_texts.specs.Written.{GoesOn, written};
 
@@ -108,12 +108,34 @@ impl<'n> TextWriter<'n> {
         Ok(())
     }
 
-    /// Adds a name as it is printed: on one line.
+    /// Adds a byte.
+    pub fn push(&mut self, byte: u8) -> Result<(), AllocError>
+        ensures { OnOk result (GoesOn self.old self.new (byte ∷ [])) }
+    {
+        self.bytes.push(byte)?;
+        Ok(())
+    }
+
+    /// Adds bytes as they are.
+    pub fn push_bytes(&mut self, bytes: &[u8]) -> Result<(), AllocError>
+        ensures { OnOk result (GoesOn self.old self.new bytes.now) }
+    {
+        self.bytes.extend_from_slice(bytes)
+    }
+
+    /// Adds a name as it is printed, a copy of it.
+    pub fn push_escaped(&mut self, name: &[u8]) -> Result<(), AllocError>
+        ensures { OnOk result (GoesOn self.old self.new (escaped name.now)) }
+    {
+        push_escaped(&mut self.bytes, name)
+    }
+
+    /// Adds a name as it is printed, which may come again: on one line.
     pub fn push_name(&mut self, name: &'n [u8]) -> Result<(), AllocError>
         ensures { OnOk result (GoesOn self.old self.new (escaped name.now)) }
     {
         if name.len() < LONG {
-            return push_escaped(&mut self.bytes, name);
+            return self.push_escaped(name);
         }
         let text = self.shared(name)?;
         self.end_part(text)
