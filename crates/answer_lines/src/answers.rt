@@ -80,7 +80,7 @@ pub fn line_of(alloc: Global, answer: &Answer) -> Result<ListVec<u8>, AllocError
         Answer::Run(number) => format!(in alloc; "run {number}\n")?.into_bytes(),
         Answer::Held(number) => format!(in alloc; "held {number}\n")?.into_bytes(),
         Answer::Done => b"done\n".to_vec(alloc)?,
-        Answer::Text(text) => text.as_slice().to_vec(alloc)?,
+        Answer::Text(text) => text.to_list(alloc)?.into_vec(),
         Answer::Refused(refusal) => refusal_line(alloc, refusal)?,
     };
     Ok(ListVec::from_vec(line))

@@ -1,6 +1,6 @@
 // The text of a difference.
 ghost use Rattle.std.specs.Prelude.{◌≡◌, ◌≤◌, OnOk, IfOk, length};
-ghost use Rattle.report_texts.specs.Differences.{difference_line, difference_lines, difference_head, difference_text};
+ghost use Rattle.report_texts.specs.Differences.{signed_text, difference_line, difference_lines, difference_head, difference_text};
 ghost use Rattle.shared_texts.specs.Written.{GoesOn};
 ghost use Rattle.cost_reports.specs.Rows.{plain_difference, plain_differences};
 

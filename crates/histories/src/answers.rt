@@ -2,6 +2,7 @@
 use cg_text::{Fault, ListVec};
 use cost_rows::Key;
 use report_texts::{CallSide, Cut};
+use shared_texts::SharedText;
 
 /// A sum over all runs that would pass 2^63-1.
 #[derive(Drop)]
@@ -118,6 +119,6 @@ pub enum Answer {
     /// The file was held already, as the run of this number.
     Held(u32),
     Done,
-    Text(ListVec<u8>),
+    Text(SharedText),
     Refused(Refusal),
 }

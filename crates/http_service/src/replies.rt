@@ -3,14 +3,16 @@ ghost use Rattle.std.specs.Prelude.{◌≡◌, ◌≤◌, length, List, Ok, Err,
 ghost use Rattle.http_exchange.specs.Streams.{Written, Writes};
 ghost use Rattle.http_exchange.specs.Responses.{response_text};
 ghost use Rattle.http_exchange.specs.declared.failings.Failing as check;
+ghost use Rattle.http_exchange.specs.declared.statuses.Status.TheVariants.{Okay};
 ghost use Rattle.histories.specs.declared.answers.Answer as given;
 ghost use Rattle.http_service.specs.Replies as spec;
 
-use crate::sending::send_sums;
+use crate::sending::{send_pieces, send_sums};
 use answer_lines::line_of;
 use cost_exports::CellSums;
 use histories::{Answer, Refusal};
-use http_exchange::{Failing, RESPONSE_ROOM, Status, Stream, send};
+use http_exchange::{Failing, RESPONSE_ROOM, Status, Stream, put_head, send};
+use shared_texts::SharedText;
 use std::alloc::{AllocError, Global};
 
 /// What an exchange came to.
@@ -97,23 +99,47 @@ pub(crate) fn send_failing<T: Stream>(
     send_as(stream, room, failing.status(), failing.allow(), body)
 }
 
-/// Sends the response of an answer: a text from where it lies, since it may be long.
-pub(crate) fn send_answer<T: Stream>(
+/// Sends the response of a text from where it lies, since it may be long, and hands the stream back.
+fn send_text<T: Stream + Drop>(
     alloc: Global,
-    stream: &mut T,
+    stream: T,
+    room: &mut [u8; RESPONSE_ROOM],
+    text: &SharedText,
+) -> (Exchange, T)
+    ensures { (writes : List Written) × Writes T.writes stream writes result.1
+        × spec.IsSentAs Okay (response_text Okay [] text.now) result.0 writes }
+{
+    let mut stream = stream;
+    match text.as_slice() {
+        Some(bytes) => {
+            let exchange = send_as(&mut stream, room, Status::Okay, "", bytes);
+            (exchange, stream)
+        }
+        None => {
+            let end = put_head(room, Status::Okay, "", text.len());
+            send_pieces(alloc, stream, &room[..end], text)
+        }
+    }
+}
+
+/// Sends the response of an answer, and hands the stream back.
+pub(crate) fn send_answer<T: Stream + Drop>(
+    alloc: Global,
+    stream: T,
     room: &mut [u8; RESPONSE_ROOM],
     answer: &Answer,
-) -> Exchange
-    ensures { (writes : List Written) × Writes T.writes stream.old writes stream.new × spec.IsReplySent (Ok answer.now) result writes }
+) -> (Exchange, T)
+    ensures { (writes : List Written) × Writes T.writes stream writes result.1 × spec.IsReplySent (Ok answer.now) result.0 writes }
 {
-    let status = status_of(answer);
     if let Answer::Text(text) = answer {
-        return send_as(stream, room, status, "", text.as_slice());
+        return send_text(alloc, stream, room, text);
     }
-    match line_of(alloc, answer) {
-        Ok(line) => send_as(stream, room, status, "", line.as_slice()),
-        Err(AllocError) => send_failing(stream, room, Failing::NoMemory),
-    }
+    let mut stream = stream;
+    let exchange = match line_of(alloc, answer) {
+        Ok(line) => send_as(&mut stream, room, status_of(answer), "", line.as_slice()),
+        Err(AllocError) => send_failing(&mut stream, room, Failing::NoMemory),
+    };
+    (exchange, stream)
 }
 
 /// Sends the response of a reply, and hands the stream back. A text of CSV of more than `most` bytes is refused as one
@@ -134,10 +160,7 @@ pub(crate) fn send_reply<T: Stream + Drop>(
             let exchange = send_failing(&mut stream, room, *failing);
             (exchange, stream)
         }
-        Reply::Answered(answer) => {
-            let exchange = send_answer(alloc, &mut stream, room, answer);
-            (exchange, stream)
-        }
+        Reply::Answered(answer) => send_answer(alloc, stream, room, answer),
         Reply::Summed(sums) => send_sums(alloc, most, stream, room, sums),
     }
 }

@@ -5,7 +5,7 @@ ghost use Rattle.histories.specs.declared.answers.Answer as given;
 ghost use Rattle.histories.specs.declared.answers.Answer.TheVariants.{Refused, Text};
 ghost use Rattle.histories.specs.declared.answers.Refusal.TheVariants.{Memory};
 ghost use Rattle.warehouse.specs.Answered.{IsGivenFor};
-ghost use Rattle.http_exchange.specs.Responses.{head_text};
+ghost use Rattle.http_exchange.specs.Responses.{head_text, response_text};
 ghost use Rattle.http_exchange.specs.Streams.{Written, Writes};
 ghost use Rattle.http_exchange.specs.declared.statuses.Status.TheVariants.{Okay};
 ghost use Rattle.http_service.specs.Replies.{IsReplySent, IsSentAs};
@@ -14,7 +14,7 @@ use crate::replies::{Exchange, send_answer};
 use cost_exports::{CellSums, Unwritten, csv_length, write_csv};
 use histories::{Answer, Refusal};
 use http_exchange::{RESPONSE_ROOM, Status, Stream, put_head, write_all};
-use shared_texts::TextSink;
+use shared_texts::{SharedText, TextSink};
 use std::alloc::Global;
 use std::io;
 use std::io::ErrorKind;
@@ -69,10 +69,8 @@ fn send_refusal<T: Stream + Drop>(
 ) -> (Exchange, T)
     ensures { (writes : List Written) × Writes T.writes stream writes result.1 × IsReplySent (Ok (Refused Memory)) result.0 writes }
 {
-    let mut stream = stream;
     let refusal = Answer::Refused(Refusal::Memory);
-    let exchange = send_answer(alloc, &mut stream, room, &refusal);
-    (exchange, stream)
+    send_answer(alloc, stream, room, &refusal)
 }
 
 /// Sends the last bytes of a response.
@@ -84,6 +82,31 @@ fn send_end<T: Stream>(stream: &mut T, bytes: &[u8]) -> Exchange
         Exchange::Sent(code)
     } else {
         Exchange::WriteFault(code)
+    }
+}
+
+/// Sends a text in pieces under this head.
+pub(crate) fn send_pieces<T: Stream + Drop>(
+    alloc: Global,
+    stream: T,
+    head: &[u8],
+    text: &SharedText,
+) -> (Exchange, T)
+    requires { head.now ≡ head_text Okay [] (length text.now) }
+    ensures { (writes : List Written) × Writes T.writes stream writes result.1 × IsSentAs Okay (response_text Okay [] text.now) result.0 writes }
+{
+    let mut sending = Sending { stream, head };
+    match text.write(alloc, &mut sending) {
+        Ok(()) => {
+            let Sending { stream, head } = sending;
+            let mut stream = stream;
+            let exchange = send_end(&mut stream, head);
+            (exchange, stream)
+        }
+        Err(_) => {
+            let code = Status::Okay.code();
+            (Exchange::WriteFault(code), sending.into_stream())
+        }
     }
 }
 

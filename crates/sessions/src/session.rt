@@ -79,20 +79,6 @@ fn asked_of(
     })
 }
 
-/// Prints an answer: a text from where it lies, since it may be long. Where there is no memory for a line,
-/// it says so, and the command stands.
-fn print_answer<W: Write>(out: &mut W, alloc: Global, answer: &Answer) -> io::Result<()>
-    ensures { Prints result (answer.now ∷ []) (W.contents out.old) (W.contents out.new) }
-{
-    if let Answer::Text(text) = answer {
-        return write_text(out, text.as_slice());
-    }
-    match line_of(alloc, answer) {
-        Ok(line) => write_text(out, line.as_slice()),
-        Err(AllocError) => write_text(out, b"refused: out of memory\n"),
-    }
-}
-
 /// Whether a change is in form: a group that is made has a name of its own form.
 fn is_in_form(name: &str, change: GroupChange) -> bool
     ensures { IsTrue result ↔ IsInForm (command_from_change change name.now) }
@@ -160,6 +146,23 @@ impl<'a, R: Files + AllocGlobal, W: Write + Drop, S: RunStore> Session<'a, R, W,
         (status, out, warehouse)
     }
 
+    /// Prints an answer: a text from where it lies, since it may be long. Where there is no memory for a line,
+    /// it says so, and the command stands.
+    fn print(&mut self, answer: &Answer) -> io::Result<()>
+        ensures status { self.new.status ≡ self.old.status }
+        ensures warehouse { self.new.warehouse ≡ self.old.warehouse }
+        ensures printed { Prints result (answer.now ∷ []) (W.contents self.old.out) (W.contents self.new.out) }
+    {
+        let alloc = self.rt.alloc();
+        if let Answer::Text(text) = answer {
+            return text.write(alloc, self);
+        }
+        match line_of(alloc, answer) {
+            Ok(line) => write_text(&mut self.out, line.as_slice()),
+            Err(AllocError) => write_text(&mut self.out, b"refused: out of memory\n"),
+        }
+    }
+
     /// Keeps what an answer says of the status, and prints it.
     fn tell(&mut self, answer: Answer) -> io::Result<()>
         ensures status { self.new.status ≡ status_after self.old.status (answer ∷ []) }
@@ -169,7 +172,7 @@ impl<'a, R: Files + AllocGlobal, W: Write + Drop, S: RunStore> Session<'a, R, W,
         if is_refused(&answer) {
             self.status = 1;
         }
-        print_answer(&mut self.out, self.rt.alloc(), &answer)
+        self.print(&answer)
     }
 
     /// Refuses a command that the warehouse is not asked.

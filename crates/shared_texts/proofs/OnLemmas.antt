@@ -1,8 +1,8 @@
 -- Texts on their way to a sink.
-use Rattle.std.proofs.Common.{◌≡◌, inr, ℕ, suc, ◌+◌, ◌<◌, List, [], ◌∷◌, ◌++◌, drop, length, get_or, add-one, Result, Ok, Err, IsErrAnd, MatchResult, OnErr, OnOk, refl, sym, ap, subst, ◌∙◌, append_assoc, append-nil}
+use Rattle.std.proofs.Common.{◌≡◌, ℕ, suc, ◌+◌, ◌<◌, List, [], ◌∷◌, ◌++◌, drop, length, get_or, add-one, Result, Ok, Err, IsErrAnd, MatchResult, OnErr, OnOk, refl, sym, ap, subst, ◌∙◌, append_assoc, append-nil}
 use Rattle.std.proofs.Math.Seq.{drop-cons}
 use Rattle.shared_texts.specs.Gone.{IsOn}
-use Rattle.shared_texts.specs.Sinks.{HasGone, HasGoneInPart}
+use Rattle.shared_texts.specs.Sinks.{HasGone, HasStopped}
 use Rattle.shared_texts.proofs.SinkLemmas.{gone_none, gone_on}
 
 module _ {S : Type 0} (takes : S → List ℕ → S → Type 0) (from : S) where
@@ -27,7 +27,7 @@ module _ {S : Type 0} (takes : S → List ℕ → S → Type 0) (from : S) where
 
   module _ (stops : S → List ℕ → S → Type 0) where
     -- the sink stopped at what was held
-    pub stopped_at : (held : List ℕ) (before after : S) (text : List ℕ) → IsOn takes from held before text → stops before held after → HasGoneInPart takes stops from text after
+    pub stopped_at : (held : List ℕ) (before after : S) (text : List ℕ) → IsOn takes from held before text → stops before held after → HasStopped takes stops from text after
     stopped_at held before after text on is = record {
       before = on.gone;
       piece = held;
@@ -35,11 +35,11 @@ module _ {S : Type 0} (takes : S → List ℕ → S → Type 0) (from : S) where
       whole = ap (λ l. on.gone ++ l) (append-nil held) ∙ on.whole;
       between = before;
       gone = on.out;
-      last = inr is;
+      last = is;
     }
 
     -- or at bytes behind a text that was taken
-    pub stopped_behind : (before after : S) (text bytes : List ℕ) → HasGone takes from text before → stops before bytes after → HasGoneInPart takes stops from (text ++ bytes) after
+    pub stopped_behind : (before after : S) (text bytes : List ℕ) → HasGone takes from text before → stops before bytes after → HasStopped takes stops from (text ++ bytes) after
     stopped_behind before after text bytes gone is = record {
       before = text;
       piece = bytes;
@@ -47,11 +47,11 @@ module _ {S : Type 0} (takes : S → List ℕ → S → Type 0) (from : S) where
       whole = ap (λ l. text ++ l) (append-nil bytes);
       between = before;
       gone = gone;
-      last = inr is;
+      last = is;
     }
 
     -- of more, these are the first bytes too
-    pub part_of : (to : S) (text more all : List ℕ) → text ++ more ≡ all → HasGoneInPart takes stops from text to → HasGoneInPart takes stops from all to
+    pub part_of : (to : S) (text more all : List ℕ) → text ++ more ≡ all → HasStopped takes stops from text to → HasStopped takes stops from all to
     part_of to text more all same it = record {
       before = it.before;
       piece = it.piece;
@@ -95,6 +95,6 @@ one_gone takes stops (Ok x) from to text is = gone_on takes from from to [] text
 one_gone takes stops (Err e) from to text is = tt
 
 pub one_stopped : {S T E : Type 0} (takes stops : S → List ℕ → S → Type 0) (result : Result T E) (from to : S) (text : List ℕ)
-    → MatchResult result (λ x. takes from text to) (λ e. stops from text to) → OnErr result (HasGoneInPart takes stops from text to)
+    → MatchResult result (λ x. takes from text to) (λ e. stops from text to) → OnErr result (HasStopped takes stops from text to)
 one_stopped takes stops (Ok x) from to text is = tt
 one_stopped takes stops (Err e) from to text is = stopped_behind takes from stops from to [] text (gone_none takes from) is

@@ -1,7 +1,7 @@
 -- Texts that a sink is given in pieces.
-use Rattle.std.proofs.Common.{◌≡◌, inl, ℕ, List, [], ◌∷◌, ◌++◌, refl, sym, ap, subst, ◌∙◌, append_assoc, append-nil}
+use Rattle.std.proofs.Common.{◌≡◌, inl, inr, ℕ, List, [], ◌∷◌, ◌++◌, refl, sym, ap, subst, ◌∙◌, append_assoc, append-nil}
 use Rattle.std.specs.List.{concat}
-use Rattle.shared_texts.specs.Sinks.{HasGone, HasGoneInPart, TakesEach}
+use Rattle.shared_texts.specs.Sinks.{HasGone, HasGoneInPart, HasStopped, TakesEach}
 
 concat_on : (pieces : List (List ℕ)) (piece : List ℕ) → concat (pieces ++ piece ∷ []) ≡ concat pieces ++ piece
 concat_on [] piece = append-nil piece
@@ -26,6 +26,10 @@ module _ {S : Type 0} (takes : S → List ℕ → S → Type 0) where
   -- the sink was given nothing
   pub part_none : (stops : S → List ℕ → S → Type 0) (sink : S) (text : List ℕ) → HasGoneInPart takes stops sink text sink
   part_none stops sink text = record { before = []; piece = []; rest = text; whole = refl; between = sink; gone = gone_none sink; last = inl refl }
+
+  -- a sink that stopped took a text in part
+  pub stopped_part : (stops : S → List ℕ → S → Type 0) (from : S) (text : List ℕ) (to : S) → HasStopped takes stops from text to → HasGoneInPart takes stops from text to
+  stopped_part stops from text to it = record { before = it.before; piece = it.piece; rest = it.rest; whole = it.whole; between = it.between; gone = it.gone; last = inr it.last }
 
   -- what each piece does, a text does, too
   module _ (R : S → List ℕ → S → Type 0) (none : (sink : S) → R sink [] sink) (join : (from between to : S) (piece text : List ℕ) → takes from piece between → R between text to → R from (piece ++ text) to) where

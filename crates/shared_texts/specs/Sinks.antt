@@ -15,6 +15,16 @@ module _ {S : Type 0} (takes : S → List ℕ → S → Type 0) where
     pub are : concat pieces ≡ text
 
   module _ (stops : S → List ℕ → S → Type 0) where
+    -- the first bytes of a text were taken, and then the sink stopped at a piece
+    pub record HasStopped (from : S) (text : List ℕ) (to : S) : Type 0 where
+      pub before : List ℕ
+      pub piece : List ℕ
+      pub rest : List ℕ
+      pub whole : before ++ (piece ++ rest) ≡ text
+      pub between : S
+      pub gone : HasGone from before between
+      pub last : stops between piece to
+
     -- the first bytes of a text were taken, and then the sink stopped at a piece, or was given no more
     pub record HasGoneInPart (from : S) (text : List ℕ) (to : S) : Type 0 where
       pub before : List ℕ

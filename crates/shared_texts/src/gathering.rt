@@ -2,7 +2,7 @@
 ghost use Rattle.std.specs.Prelude.{◌≡◌, ◌++◌, if◌then◌else◌, ℕ, List, [], flat_map, OnOk, OnErr, MatchResult};
 ghost use Rattle.shared_texts.specs.Gone.{IsOn};
 ghost use Rattle.shared_texts.specs.Parts.{part_text, text_of};
-ghost use Rattle.shared_texts.specs.Sinks.{HasGone, HasGoneInPart};
+ghost use Rattle.shared_texts.specs.Sinks.{HasGone, HasStopped};
 
 use crate::parts::Part;
 use crate::text_sinks::TextSink;
@@ -15,7 +15,7 @@ const ROOM: usize = 65_536;
 /// Hands on what is held.
 fn hand_on<W: TextSink>(held: &mut Vec<u8>, out: &mut W) -> io::Result<()>
     ensures { (from : _) (text : List ℕ) → IsOn W.takes from held.old.items out.old text
-        → MatchResult result (λ _. (held.new.items ≡ []) × HasGone W.takes from text out.new) (λ _. HasGoneInPart W.takes W.stops from text out.new) }
+        → MatchResult result (λ _. (held.new.items ≡ []) × HasGone W.takes from text out.new) (λ _. HasStopped W.takes W.stops from text out.new) }
 {
     out.take_piece(held.as_slice())?;
     held.clear();
@@ -33,7 +33,7 @@ fn gathers(held: &mut Vec<u8>, bytes: &[u8]) -> bool
 fn put<W: TextSink>(held: &mut Vec<u8>, out: &mut W, bytes: &[u8]) -> io::Result<()>
     ensures { (from : _) (text : List ℕ) → IsOn W.takes from held.old.items out.old text
         → MatchResult result (λ _. IsOn W.takes from held.new.items out.new (text ++ bytes.now))
-        (λ _. HasGoneInPart W.takes W.stops from (text ++ bytes.now) out.new) }
+        (λ _. HasStopped W.takes W.stops from (text ++ bytes.now) out.new) }
 {
     if gathers(held, bytes) {
         return Ok(());
@@ -46,7 +46,7 @@ fn put<W: TextSink>(held: &mut Vec<u8>, out: &mut W, bytes: &[u8]) -> io::Result
 fn put_part<W: TextSink>(held: &mut Vec<u8>, out: &mut W, part: &Part) -> io::Result<()>
     ensures { (from : _) (text : List ℕ) → IsOn W.takes from held.old.items out.old text
         → MatchResult result (λ _. IsOn W.takes from held.new.items out.new (text ++ part_text part.now))
-        (λ _. HasGoneInPart W.takes W.stops from (text ++ part_text part.now) out.new) }
+        (λ _. HasStopped W.takes W.stops from (text ++ part_text part.now) out.new) }
 {
     put(held, out, &part.bytes)?;
     put(held, out, part.name.as_ref())
@@ -56,7 +56,7 @@ fn put_part<W: TextSink>(held: &mut Vec<u8>, out: &mut W, part: &Part) -> io::Re
 fn put_parts<W: TextSink>(held: &mut Vec<u8>, out: &mut W, parts: &[Part]) -> io::Result<()>
     ensures { (from : _) (text : List ℕ) → IsOn W.takes from held.old.items out.old text
         → MatchResult result (λ _. IsOn W.takes from held.new.items out.new (text ++ flat_map part_text parts.now))
-        (λ _. HasGoneInPart W.takes W.stops from (text ++ flat_map part_text parts.now) out.new) }
+        (λ _. HasStopped W.takes W.stops from (text ++ flat_map part_text parts.now) out.new) }
 {
     for part in parts {
         put_part(held, out, part)?;
@@ -73,7 +73,7 @@ fn put_all<W: TextSink>(
 ) -> io::Result<()>
     requires { held.old.items ≡ [] }
     ensures whole { OnOk result (HasGone W.takes out.old (text_of parts.now rest.now) out.new) }
-    ensures part { OnErr result (HasGoneInPart W.takes W.stops out.old (text_of parts.now rest.now) out.new) }
+    ensures part { OnErr result (HasStopped W.takes W.stops out.old (text_of parts.now rest.now) out.new) }
 {
     put_parts(held, out, parts)?;
     put(held, out, rest)?;
@@ -88,7 +88,7 @@ pub(crate) fn hand_over<W: TextSink>(
     out: &mut W,
 ) -> io::Result<()>
     ensures whole { OnOk result (HasGone W.takes out.old (text_of parts.now rest.now) out.new) }
-    ensures part { OnErr result (HasGoneInPart W.takes W.stops out.old (text_of parts.now rest.now) out.new) }
+    ensures part { OnErr result (HasStopped W.takes W.stops out.old (text_of parts.now rest.now) out.new) }
 {
     let mut held = Vec::new(alloc);
     put_all(&mut held, out, parts, rest)

@@ -1,7 +1,7 @@
 // A text that is whole.
 ghost use Rattle.std.specs.Prelude.{◌≡◌, ◌++◌, flat_map, length, IfOk, IfSome, OnOk, OnErr};
 ghost use Rattle.shared_texts.specs.Parts.{part_text, text_of};
-ghost use Rattle.shared_texts.specs.Sinks.{HasGone, HasGoneInPart};
+ghost use Rattle.shared_texts.specs.Sinks.{HasGone, HasStopped};
 
 use crate::gathering::hand_over;
 use crate::parts::Part;
@@ -92,10 +92,10 @@ impl SharedText {
     }
 
     /// Hands the text to a sink, in pieces. It may take memory to gather short ones, and needs none. Where it fails, the
-    /// sink took its first bytes.
+    /// sink stopped, and took its first bytes.
     pub fn write<W: TextSink>(&self, alloc: Global, out: &mut W) -> io::Result<()>
         ensures whole { OnOk result (HasGone W.takes out.old self.now out.new) }
-        ensures part { OnErr result (HasGoneInPart W.takes W.stops out.old self.now out.new) }
+        ensures part { OnErr result (HasStopped W.takes W.stops out.old self.now out.new) }
     {
         if let Some(bytes) = self.as_slice() {
             return out.take_piece(bytes);

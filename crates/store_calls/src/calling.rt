@@ -20,6 +20,7 @@ use cost_reports::{CallSide, CallSums, calls};
 use histories::{Answer, Refusal, Selection};
 use run_stores::{RunStore, StoreError};
 use selected_runs::{Counted, RunFold, event_runs, fold_runs};
+use shared_texts::SharedText;
 use std::alloc::{AllocError, Global};
 
 /// Keeps the calls of runs that are of the function that is asked.
@@ -74,7 +75,7 @@ fn text_of_sums(
     sums: &CallSums,
     event: &[u8],
     most: usize,
-) -> Result<ListVec<u8>, AllocError>
+) -> Result<SharedText, AllocError>
     ensures { IfOk result (λ text. text ≡ call_report_text event.now (call_report_of sums.now)) }
 {
     let report = calls(alloc, sums)?;
@@ -89,7 +90,7 @@ fn text_of_calls<S: RunStore>(
     calls: &KeptCalls,
     event: &[u8],
     most: usize,
-) -> Result<ListVec<u8>, StoreError>
+) -> Result<SharedText, StoreError>
     ensures told { Told S.StoreState result store.old store.new (λ t text.
         text ≡ call_report_text event.now (call_report_of (sums_named t.names (spot_asked asked.now) (kept_of calls.now)))) }
     ensures asks { AsksIfOpen S.StoreState (is_ok result) store.old store.new }
@@ -110,7 +111,7 @@ fn text_if_known<S: RunStore>(
     calls: &KeptCalls,
     event: &[u8],
     most: usize,
-) -> Result<Option<ListVec<u8>>, StoreError>
+) -> Result<Option<SharedText>, StoreError>
     ensures told { Told S.StoreState result store.old store.new (λ t text. IsAsked t.names asked.now
         → text ≡ text_taken t runs.now event.now (taken_named t.names (spot_asked asked.now) (kept_of calls.now))) }
     ensures asks { AsksIfOpen S.StoreState (is_ok result) store.old store.new }
@@ -132,7 +133,7 @@ fn calls_text<S: RunStore>(
     object: &[u8],
     name: &[u8],
     most: usize,
-) -> Result<Option<ListVec<u8>>, StoreError>
+) -> Result<Option<SharedText>, StoreError>
     ensures told { Told S.StoreState result store.old store.new (λ t text. IsCallsText t runs.now side (function_spot object.now name.now) event.now text) }
     ensures asks { AsksIfOpen S.StoreState (is_ok result) store.old store.new }
 {

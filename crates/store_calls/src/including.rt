@@ -20,6 +20,7 @@ use histories::{Answer, Selection};
 use profile_records::Kind;
 use run_stores::{NameTable, RunStore, StoreError};
 use selected_runs::{Counted, RunFold, event_runs, fold_runs};
+use shared_texts::SharedText;
 use std::alloc::{AllocError, Global};
 
 /// Adds the self costs and the calls of a Callgrind run.
@@ -125,7 +126,7 @@ fn text_of_sums(
     sums: &InclusiveSums,
     event: &[u8],
     most: usize,
-) -> Result<ListVec<u8>, AllocError>
+) -> Result<SharedText, AllocError>
     ensures { IfOk result (λ text. text ≡ inclusive_text event.now (inclusive_report sums.now)) }
 {
     let report = inclusive(alloc, sums)?;
@@ -139,7 +140,7 @@ fn text_of_parts<N: NameTable>(
     names: &N,
     event: &[u8],
     most: usize,
-) -> Result<ListVec<u8>, StoreError>
+) -> Result<SharedText, StoreError>
     ensures { IfOk result (λ text. IsTextNamed (N.name_rows names.now) (sums_in parts) event.now text) }
 {
     let sums = parts.named(alloc, names, most)?;
@@ -153,7 +154,7 @@ fn inclusive_text<S: RunStore>(
     runs: &[Counted],
     event: &[u8],
     most: usize,
-) -> Result<ListVec<u8>, StoreError>
+) -> Result<SharedText, StoreError>
     ensures told { Told S.StoreState result store.old store.new (λ t text. IsInclusiveText t runs.now event.now text) }
     ensures asks { AsksIfOpen S.StoreState (is_ok result) store.old store.new }
 {

@@ -13,6 +13,7 @@ use cg_text::ListVec;
 use histories::Answer;
 use profile_records::Kind;
 use run_stores::{GroupEntry, RunEntry, RunStore, StoreError};
+use shared_texts::SharedText;
 use std::alloc::{AllocError, Global};
 
 fn kind_text(kind: Kind) -> &'static str
@@ -152,7 +153,7 @@ pub fn runs_answer<S: RunStore>(
     ensures { AnswersAsked S.StoreState (λ t. ShowsText (IsListOfRuns t)) Runs result store.old store.new }
 {
     let text = list_runs(store, alloc, most)?;
-    Ok(Answer::Text(text))
+    Ok(Answer::Text(SharedText::from_list(alloc, text)))
 }
 
 /// Answers which groups are there. A text of more than `most` bytes is refused, as by `runs_answer`.
@@ -164,5 +165,5 @@ pub fn groups_answer<S: RunStore>(
     ensures { AnswersAsked S.StoreState (λ t. ShowsText (IsListOfGroups t)) Groups result store.old store.new }
 {
     let text = list_groups(store, alloc, most)?;
-    Ok(Answer::Text(text))
+    Ok(Answer::Text(SharedText::from_list(alloc, text)))
 }

@@ -15,6 +15,7 @@ use cost_exports::{LineSums, annotate};
 use histories::{Answer, Refusal, Selection};
 use run_stores::{RunStore, StoreError};
 use selected_runs::{Counted, RunFold, event_runs, fold_runs};
+use shared_texts::SharedText;
 use std::alloc::Global;
 
 /// Adds the cells of a run, by the number of the file's name. Those of a run without the event cost nothing, but
@@ -111,7 +112,7 @@ pub fn annotate_answer<S: RunStore>(
     let (name, source) = (name.as_slice(), source.as_slice());
     let runs = runs.as_slice();
     match annotated_text(store, alloc, runs, event, name, source, most)? {
-        Some(text) => Ok(Answer::Text(text)),
+        Some(text) => Ok(Answer::Text(SharedText::from_list(alloc, text))),
         None => Ok(Answer::Refused(Refusal::NoSuchName)),
     }
 }

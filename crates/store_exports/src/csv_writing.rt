@@ -17,6 +17,7 @@ use histories::{Answer, Refusal, Selection};
 use named_rows::each_named_cell;
 use run_stores::{RunStore, StoreError};
 use selected_runs::{RunFold, fold_runs, select_runs};
+use shared_texts::SharedText;
 use std::alloc::Global;
 
 /// Adds the cells of a run, by the names of its events.
@@ -111,7 +112,10 @@ pub fn csv_answer<S: RunStore>(
     ensures { AnswersAsked S.StoreState (λ t. IsCsv t selection.now) (Csv selection.now) result store.old store.new }
 {
     match csv_sums(store, alloc, selection, most)? {
-        Ok(sums) => Ok(Answer::Text(csv_text(alloc, most, &sums)?)),
+        Ok(sums) => {
+            let text = csv_text(alloc, most, &sums)?;
+            Ok(Answer::Text(SharedText::from_list(alloc, text)))
+        }
         Err(refusal) => Ok(Answer::Refused(refusal)),
     }
 }

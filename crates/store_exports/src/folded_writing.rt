@@ -12,6 +12,7 @@ use cost_exports::{StackSums, folded_text};
 use histories::{Answer, Selection};
 use run_stores::{RunStore, StoreError};
 use selected_runs::{RunFold, fold_runs, select_runs};
+use shared_texts::SharedText;
 use std::alloc::Global;
 
 /// Adds the stacks of runs with their counts. Callgrind runs have none.
@@ -67,5 +68,5 @@ pub fn folded_answer<S: RunStore>(
         Err(refusal) => return Ok(Answer::Refused(refusal)),
     };
     let text = text_of_runs(store, alloc, numbers.as_slice(), most)?;
-    Ok(Answer::Text(text))
+    Ok(Answer::Text(SharedText::from_list(alloc, text)))
 }

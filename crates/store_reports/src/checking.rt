@@ -15,6 +15,7 @@ use cost_reports::verify;
 use histories::{Answer, Selection};
 use run_stores::{RunStore, StoreError};
 use selected_runs::{RunFold, fold_runs, select_runs};
+use shared_texts::SharedText;
 use std::alloc::{AllocError, Global};
 
 /// Adds the lines of a run: the sums of its events beside what its head states.
@@ -130,5 +131,5 @@ pub fn verify_answer<S: RunStore>(
         Err(refusal) => return Ok(Answer::Refused(refusal)),
     };
     let text = check_runs(store, alloc, numbers.as_slice(), most)?;
-    Ok(Answer::Text(text))
+    Ok(Answer::Text(SharedText::from_list(alloc, text)))
 }

@@ -18,6 +18,7 @@ use histories::{Answer, Refusal, Selection};
 use number_sums::NumberSums;
 use run_stores::{NameTable, RunStore, StoreError};
 use selected_runs::{Counted, Numbers, count_runs, have_event, name_text, one_run, select_runs};
+use shared_texts::SharedText;
 use std::alloc::{AllocError, Global};
 
 /// The baseline of a group, as a selection of one run.
@@ -61,7 +62,7 @@ fn text_of_sums(
     second: &Merged,
     event: &[u8],
     most: usize,
-) -> Result<ListVec<u8>, AllocError>
+) -> Result<SharedText, AllocError>
     ensures { IfOk result (λ text. text ≡ difference_text event.now (difference_of first.now.key first.now.sums second.now.sums)) }
 {
     let difference = subtract(alloc, first, second)?;
@@ -76,7 +77,7 @@ fn text_of_numbers<N: NameTable>(
     seconds: NumberSums,
     event: &[u8],
     most: usize,
-) -> Result<ListVec<u8>, StoreError>
+) -> Result<SharedText, StoreError>
     ensures { IfOk result (λ text. (all : List NameRow) → AreOf all (N.name_rows names.now)
         → text ≡ difference_text event.now (difference_of firsts.key (named_sums all firsts) (named_sums all seconds))) }
 {
@@ -109,7 +110,7 @@ fn difference_text<S: RunStore>(
     key: Key,
     event: &[u8],
     most: usize,
-) -> Result<ListVec<u8>, StoreError>
+) -> Result<SharedText, StoreError>
     ensures told { Told S.StoreState result store.old store.new (λ t text. text ≡ difference_over t firsts.now seconds.now key event.now) }
     ensures asks { AsksIfOpen S.StoreState (is_ok result) store.old store.new }
 {

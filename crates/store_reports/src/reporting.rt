@@ -23,6 +23,7 @@ use histories::{Answer, Selection};
 use number_sums::{NumberSums, RankedSums};
 use run_stores::{NameTable, RunStore, StoreError};
 use selected_runs::{Counted, event_runs};
+use shared_texts::SharedText;
 use std::alloc::Global;
 
 /// Of some sums those that a cut can show. Errors: `Memory`; and `Store` where the name of a sum that is left out is
@@ -57,7 +58,7 @@ fn text_of_sums<N: NameTable>(
     event: &[u8],
     cut: Cut,
     most: usize,
-) -> Result<ListVec<u8>, StoreError>
+) -> Result<SharedText, StoreError>
     ensures text { IfOk result (λ text. (all : List (Spot × ℕ)) → total_of all ≡ sums.now.total
         → AreEnough (λ e. e.1) cut all (map (named_sum (N.name_rows names.now) sums.now.key) sums.now.sums)
         → text ≡ key_report_text event.now (report_of sums.now.key cut all)) }
@@ -78,7 +79,7 @@ fn report_text<S: RunStore>(
     event: &[u8],
     cut: Cut,
     most: usize,
-) -> Result<ListVec<u8>, StoreError>
+) -> Result<SharedText, StoreError>
     ensures told { Told S.StoreState result store.old store.new (λ t text. text ≡ report_over t runs.now key event.now cut) }
     ensures asks { AsksIfOpen S.StoreState (is_ok result) store.old store.new }
 {

@@ -1,6 +1,6 @@
 use Rattle.std.proofs.Common.{◌++◌, ℕ, List, MatchResult, ap, subst, ◌∙◌, append_assoc}
 use Rattle.shared_texts.specs.Gone.{IsOn}
-use Rattle.shared_texts.specs.Sinks.{HasGoneInPart}
+use Rattle.shared_texts.specs.Sinks.{HasStopped}
 use Rattle.shared_texts.proofs.OnLemmas.{part_of, passed}
 use Rattle.shared_texts.proofs.gathering.put_part.Goals as goal
 
@@ -18,6 +18,6 @@ returns g c from text on =
     let name = c.deref-2.result.now in
     let held = c.put-2.new.held.items in
     let to = c.put-2.new.out in
-    subst (λ (l : List ℕ). MatchResult c.put-2.result (λ x. IsOn g.W.TextSink.takes from held to l) (λ x. HasGoneInPart g.W.TextSink.takes g.W.TextSink.stops from l to))
+    subst (λ (l : List ℕ). MatchResult c.put-2.result (λ x. IsOn g.W.TextSink.takes from held to l) (λ x. HasStopped g.W.TextSink.takes g.W.TextSink.stops from l to))
     (append_assoc text bytes name ∙ ap (λ l. text ++ (l ++ name)) c.deref.ensures.value ∙ ap (λ l. text ++ (c.args.part.now.bytes.items ++ l)) (c.deref-2.ensures.value ∙ ap (λ v. v.items) c.as_ref.ensures))
     (c.put-2.ensures from (text ++ bytes) (c.in_ok-put.ensures from text on))

@@ -1,5 +1,5 @@
 use Rattle.std.proofs.Common.{List, ℕ, OnErr, OnOk, subst}
-use Rattle.shared_texts.specs.Sinks.{HasGone, HasGoneInPart}
+use Rattle.shared_texts.specs.Sinks.{HasGone, HasStopped}
 use Rattle.shared_texts.proofs.OnLemmas.{one_gone, one_stopped}
 use Rattle.shared_texts.proofs.texts.SharedText.write.Goals as goal
 
@@ -12,5 +12,5 @@ returns-in-Some-clause-whole g c =
 pub returns-in-Some-clause-part : goal.returns-in-Some-clause-part
 returns-in-Some-clause-part g c =
     let to = c.take_piece.new.self in
-    subst (λ (l : List ℕ). OnErr c.take_piece.result (HasGoneInPart g.W.TextSink.takes g.W.TextSink.stops c.args.out.now l to)) c.in-Some.ensures
+    subst (λ (l : List ℕ). OnErr c.take_piece.result (HasStopped g.W.TextSink.takes g.W.TextSink.stops c.args.out.now l to)) c.in-Some.ensures
     (one_stopped g.W.TextSink.takes g.W.TextSink.stops c.take_piece.result c.args.out.now to c.in-Some.bytes.now c.take_piece.ensures)

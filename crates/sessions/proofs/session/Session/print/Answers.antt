@@ -3,7 +3,7 @@ use Rattle.answer_lines.specs.Answers.{line_text, takes_memory}
 use Rattle.histories.specs.declared.answers.Answer.TheVariants.{Refused}
 use Rattle.histories.specs.declared.answers.Refusal.TheVariants.{Memory}
 use Rattle.sessions.proofs.SessionLemmas.{wrote}
-use Rattle.sessions.proofs.session.print_answer.Goals as goal
+use Rattle.sessions.proofs.session.Session.print.Goals as goal
 
 pub returns-in-Err : goal.returns-in-Err
 returns-in-Err g c =
