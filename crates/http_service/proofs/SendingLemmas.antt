@@ -1,6 +1,6 @@
 -- A text that is sent as it is made, behind a head.
 use Rattle.std.proofs.Common.{◌≡◌, ◌⊎◌, ◌∙◌, inl, inr, ℕ, true, false, Bool, List, [], ◌++◌, refl, sym, ap, subst, append_assoc, append-nil}
-use Rattle.shared_texts.specs.Sinks.{HasGone, HasGoneInPart}
+use Rattle.shared_texts.specs.Sinks.{HasGone, HasGoneInPart, HasStopped}
 use Rattle.shared_texts.proofs.SinkLemmas.{gone_as}
 use Rattle.http_exchange.specs.Streams.{HaveTaken, IsFront, Written, Writes, WentAs, bytes_written, is_stopped}
 use Rattle.http_exchange.proofs.Steps.{any_join, cut_first, went_join, written_join, wrote_join}
@@ -68,6 +68,10 @@ module _ {T : Type 0} (writes : T → Written → T → Type 0) where
       ap (λ l. l ++ rest) (sym (append_assoc sent.0 between.head.now piece) ∙ ap (λ l. l ++ piece) sent.2)
       ∙ append_assoc (from.head.now ++ before) piece rest ∙ append_assoc from.head.now before (piece ++ rest) in
       went_first from.stream to.stream front rest (from.head.now ++ (before ++ (piece ++ rest))) whole (join false from.stream between.stream to.stream sent.0 (between.head.now ++ piece) sent.1 stopped)
+
+  pub sent_stopped : (from : Sending T) (text : List ℕ) (to : Sending T) → HasStopped Takes Stops from text to → Went false from.stream (from.head.now ++ text) to.stream
+  sent_stopped from text to it =
+      subst (λ l. Went false from.stream (from.head.now ++ l) to.stream) it.whole (stopped_at from it.before it.piece it.rest it.between to (sent_all from it.before it.between it.gone) it.last)
 
   pub sent_part : (from : Sending T) (text : List ℕ) (to : Sending T) → HasGoneInPart Takes Stops from text to → Went false from.stream (from.head.now ++ text) to.stream ⊎ WentShort from.stream (from.head.now ++ text) to.stream
   sent_part from text to it =

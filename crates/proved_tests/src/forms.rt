@@ -209,7 +209,7 @@ fn told_by(alloc: Global, conn: Held) -> Result<(Vec<u8>, Held), Fail> {
         let (answer, left) = answered(alloc, conn, command_of(alloc, asked)?)?;
         conn = left;
         match answer {
-            Answer::Text(text) => told.extend_from_slice(text.as_slice())?,
+            Answer::Text(text) => told.extend_from_slice(text.to_list(alloc)?.as_slice())?,
             _ => Err("a question is refused")?,
         }
     }

@@ -1,10 +1,13 @@
 -- A text that is printed a piece at a time.
-use Rattle.std.proofs.Common.{◌≡◌, ◌∙◌, inl, inr, ℕ, List, ◌++◌, take, drop, length, Option, refl, sym, ap, subst, append_assoc, take-append-drop}
+use Rattle.std.proofs.Common.{[], ◌∷◌, Result, Ok, Err, OnOk, OnErr, ◌≡◌, ◌∙◌, inl, inr, ℕ, List, ◌++◌, take, drop, length, Option, refl, sym, ap, subst, append_assoc, take-append-drop}
 use Rattle.std.specs.Io.KnownBytes.{Appends}
 use Rattle.std.proofs.KnownBytes.{Appends-nil, Appends-trans}
 use Rattle.std.proofs.Math.Seq.{take-append_seam}
-use Rattle.shared_texts.specs.Sinks.{HasGone, HasGoneInPart}
-use Rattle.shared_texts.proofs.SinkLemmas.{gone_as}
+use Rattle.shared_texts.specs.Sinks.{HasGone, HasGoneInPart, HasStopped}
+use Rattle.shared_texts.proofs.SinkLemmas.{gone_as, stopped_part}
+use Rattle.histories.specs.declared.answers.Answer.TheVariants.{Text}
+use Rattle.sessions.specs.Sessions.{Prints}
+use Rattle.sessions.proofs.SessionLemmas.{part_printed, whole_printed}
 use Rattle.sessions.specs.declared.session.Session.{Session}
 
 -- the known bytes grew by the first bytes of a text
@@ -52,3 +55,14 @@ module _ {R W S N : Type 0} (contents : W → Option (List ℕ)) where
         | inl same ↦ ended_at from it.before (it.piece ++ it.rest) text it.between to it.whole before same
         | inr stopped ↦ stopped_at from it.before it.piece it.rest text it.between to it.whole before stopped
       ]
+
+  -- a text was printed, or its first bytes
+  pub written_as : {E : Type 0} (result : Result Unit E) (from : Session R W S N) (text : List ℕ) (to : Session R W S N)
+      → OnOk result (HasGone Takes from text to) → OnErr result (HasStopped Takes Stops from text to)
+      → (to.warehouse ≡ from.warehouse) × (to.status ≡ from.status) × Prints result (Text text ∷ []) (contents from.out) (contents to.out)
+  written_as (Ok done) from text to whole part =
+      let all = all_printed from text to whole in
+      (all.1, all.2, whole_printed text (contents from.out) (contents to.out) all.0)
+  written_as (Err e) from text to whole part =
+      let all = printed_in_part from text to (stopped_part Takes Stops from text to part) in
+      (all.1, all.2, part_printed text (contents from.out) (contents to.out) all.0)
