@@ -162,6 +162,7 @@ fn many_runs_and_rows_are_asked(rt: HostRuntime) -> Result<(), Fail> {
             return Err("a question is refused")?;
         };
         let found = text
+            .to_list(alloc)?
             .as_slice()
             .iter()
             .filter(|byte| **byte == b'\n')

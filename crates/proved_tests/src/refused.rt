@@ -63,7 +63,10 @@ fn letter(answer: &Answer) -> u8 {
         Answer::Run(1) => b'r',
         Answer::Held(1) => b'h',
         Answer::Done => b'd',
-        Answer::Text(text) => letter_of_text(text.as_slice()),
+        Answer::Text(text) => match text.as_slice() {
+            Some(bytes) => letter_of_text(bytes),
+            None => b'?',
+        },
         Answer::Refused(Refusal::Memory) => b'm',
         Answer::Refused(Refusal::GroupTaken) => b't',
         Answer::Refused(Refusal::NoSuchRun) => b'n',

@@ -143,7 +143,7 @@ fn ask(
     match house.apply::<Given>(alloc, Command::Ask(query)) {
         Answer::Text(text) => {
             told.push(1)?;
-            told.extend_from_slice(text.as_slice())
+            told.extend_from_slice(text.to_list(alloc)?.as_slice())
         }
         _ => Ok(told.push(2)?),
     }
