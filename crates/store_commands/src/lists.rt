@@ -46,7 +46,7 @@ fn push_run(text: &mut String, alloc: Global, run: &RunEntry) -> Result<(), Allo
 }
 
 /// The runs, a line for each, as long as the text has at most `most` bytes.
-fn runs_text(alloc: Global, runs: &[RunEntry], most: usize) -> Result<ListVec<u8>, AllocError>
+fn runs_text(alloc: Global, runs: &[RunEntry], most: usize) -> Result<SharedText, AllocError>
     ensures { IfOk result (λ text. text ≡ flat_map entry_line runs.now) }
 {
     let mut text = String::new(alloc);
@@ -56,7 +56,7 @@ fn runs_text(alloc: Global, runs: &[RunEntry], most: usize) -> Result<ListVec<u8
             return Err(AllocError);
         }
     }
-    Ok(ListVec::from_vec(text.into_bytes()))
+    Ok(SharedText::from_list(alloc, ListVec::from_vec(text.into_bytes())))
 }
 
 /// Adds numbers, a comma before each.
@@ -105,7 +105,7 @@ fn push_group(text: &mut String, group: &GroupEntry) -> Result<(), AllocError>
 }
 
 /// The groups, a line for each, as long as the text has at most `most` bytes.
-fn groups_text(alloc: Global, groups: &[GroupEntry], most: usize) -> Result<ListVec<u8>, AllocError>
+fn groups_text(alloc: Global, groups: &[GroupEntry], most: usize) -> Result<SharedText, AllocError>
     ensures { IfOk result (λ text. text ≡ flat_map group_entry_line groups.now) }
 {
     let mut text = String::new(alloc);
@@ -115,7 +115,7 @@ fn groups_text(alloc: Global, groups: &[GroupEntry], most: usize) -> Result<List
             return Err(AllocError);
         }
     }
-    Ok(ListVec::from_vec(text.into_bytes()))
+    Ok(SharedText::from_list(alloc, ListVec::from_vec(text.into_bytes())))
 }
 
 /// The list of the runs that are held.
@@ -123,7 +123,7 @@ fn list_runs<S: RunStore>(
     store: &mut S,
     alloc: Global,
     most: usize,
-) -> Result<ListVec<u8>, StoreError>
+) -> Result<SharedText, StoreError>
     ensures told { Told S.StoreState result store.old store.new IsListOfRuns }
     ensures asks { Asks S.StoreState (is_ok result) store.old store.new }
 {
@@ -136,7 +136,7 @@ fn list_groups<S: RunStore>(
     store: &mut S,
     alloc: Global,
     most: usize,
-) -> Result<ListVec<u8>, StoreError>
+) -> Result<SharedText, StoreError>
     ensures told { Told S.StoreState result store.old store.new IsListOfGroups }
     ensures asks { Asks S.StoreState (is_ok result) store.old store.new }
 {
@@ -153,7 +153,7 @@ pub fn runs_answer<S: RunStore>(
     ensures { AnswersAsked S.StoreState (λ t. ShowsText (IsListOfRuns t)) Runs result store.old store.new }
 {
     let text = list_runs(store, alloc, most)?;
-    Ok(Answer::Text(SharedText::from_list(alloc, text)))
+    Ok(Answer::Text(text))
 }
 
 /// Answers which groups are there. A text of more than `most` bytes is refused, as by `runs_answer`.
@@ -165,5 +165,5 @@ pub fn groups_answer<S: RunStore>(
     ensures { AnswersAsked S.StoreState (λ t. ShowsText (IsListOfGroups t)) Groups result store.old store.new }
 {
     let text = list_groups(store, alloc, most)?;
-    Ok(Answer::Text(SharedText::from_list(alloc, text)))
+    Ok(Answer::Text(text))
 }

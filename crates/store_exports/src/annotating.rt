@@ -1,8 +1,9 @@
 // The answers to questions of what the lines of a source cost.
-ghost use Rattle.std.specs.Prelude.{◌≡◌};
+ghost use Rattle.std.specs.Prelude.{◌≡◌, ◌≤◌, length, IfOk};
 ghost use Rattle.std.specs.List.{AllByRecursion};
 ghost use Rattle.std.specs.Result.{is_ok};
 ghost use Rattle.plain_tables.specs.RunRows.{cells_in};
+ghost use Rattle.report_texts.specs.Annotations.{annotation_of, annotation_text};
 ghost use Rattle.run_stores.specs.Calls.{Told, AsksIfOpen};
 ghost use Rattle.run_stores.specs.Walks.{IsOfAnEvent};
 ghost use Rattle.histories.specs.declared.answers.Query.TheVariants.{Annotate};
@@ -16,7 +17,7 @@ use histories::{Answer, Refusal, Selection};
 use run_stores::{RunStore, StoreError};
 use selected_runs::{Counted, RunFold, event_runs, fold_runs};
 use shared_texts::SharedText;
-use std::alloc::Global;
+use std::alloc::{AllocError, Global};
 
 /// Adds the cells of a run, by the number of the file's name. Those of a run without the event cost nothing, but
 /// tell that it has the file.
@@ -50,7 +51,7 @@ struct LinesOfRuns<'a> {
 }
 
 impl<S: RunStore> RunFold<S> for LinesOfRuns<'_> {
-    ghost use Rattle.std.specs.Prelude.{◌≡◌};
+    ghost use Rattle.std.specs.Prelude.{◌≡◌, ◌≤◌, length, IfOk};
     ghost use Rattle.store_exports.specs.Annotated.{numbered_from};
 
     type Run = Counted;
@@ -64,6 +65,21 @@ impl<S: RunStore> RunFold<S> for LinesOfRuns<'_> {
     }
 }
 
+/// The text of a source with what its lines cost.
+fn source_text(
+    alloc: Global,
+    most: usize,
+    sums: &LineSums,
+    event: &[u8],
+    source: &[u8],
+) -> Result<SharedText, AllocError>
+    ensures text { IfOk result (λ text. text ≡ annotation_text event.now (annotation_of sums.now.file source.now sums.now.costs)) }
+    ensures short { IfOk result (λ text. length text ≤ most) }
+{
+    let text = annotate(alloc, most, sums, event, source)?;
+    Ok(SharedText::from_list(alloc, text))
+}
+
 /// The text of a source with what its lines cost over some runs, if one of them knows the file.
 fn annotated_text<S: RunStore>(
     store: &mut S,
@@ -73,7 +89,7 @@ fn annotated_text<S: RunStore>(
     name: &[u8],
     source: &[u8],
     most: usize,
-) -> Result<Option<ListVec<u8>>, StoreError>
+) -> Result<Option<SharedText>, StoreError>
     ensures told { Told S.StoreState result store.old store.new (λ t text. text ≡ annotated_over t runs.now event.now name.now source.now) }
     ensures asks { AsksIfOpen S.StoreState (is_ok result) store.old store.new }
 {
@@ -83,7 +99,7 @@ fn annotated_text<S: RunStore>(
     if !sums.is_known() {
         return Ok(None);
     }
-    let text = annotate(alloc, most, &sums, event, source)?;
+    let text = source_text(alloc, most, &sums, event, source)?;
     Ok(Some(text))
 }
 
@@ -112,7 +128,7 @@ pub fn annotate_answer<S: RunStore>(
     let (name, source) = (name.as_slice(), source.as_slice());
     let runs = runs.as_slice();
     match annotated_text(store, alloc, runs, event, name, source, most)? {
-        Some(text) => Ok(Answer::Text(SharedText::from_list(alloc, text))),
+        Some(text) => Ok(Answer::Text(text)),
         None => Ok(Answer::Refused(Refusal::NoSuchName)),
     }
 }

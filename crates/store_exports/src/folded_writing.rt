@@ -1,26 +1,26 @@
 // The answers to questions of stacks as folded text.
-ghost use Rattle.std.specs.Prelude.{◌≡◌};
+ghost use Rattle.std.specs.Prelude.{◌≡◌, ◌≤◌, length, IfOk};
 ghost use Rattle.std.specs.Result.{is_ok};
+ghost use Rattle.report_texts.specs.Folded.{folded_text};
 ghost use Rattle.run_stores.specs.Calls.{Told, AsksIfOpen};
 ghost use Rattle.histories.specs.declared.answers.Query.TheVariants.{Folded};
 ghost use Rattle.store_histories.specs.Answered.{AnswersAsked};
 ghost use Rattle.store_exports.specs.FoldedRuns.{IsFolded, folded_over};
 
 use crate::sinks::StackRows;
-use cg_text::ListVec;
 use cost_exports::{StackSums, folded_text};
 use histories::{Answer, Selection};
 use run_stores::{RunStore, StoreError};
 use selected_runs::{RunFold, fold_runs, select_runs};
 use shared_texts::SharedText;
-use std::alloc::Global;
+use std::alloc::{AllocError, Global};
 
 /// Adds the stacks of runs with their counts. Callgrind runs have none.
 #[derive(Drop)]
 struct StacksOfRuns;
 
 impl<S: RunStore> RunFold<S> for StacksOfRuns {
-    ghost use Rattle.std.specs.Prelude.{◌≡◌};
+    ghost use Rattle.std.specs.Prelude.{◌≡◌, ◌≤◌, length, IfOk};
     ghost use Rattle.store_exports.specs.FoldedRuns.{stacks_from};
 
     type Run = u32;
@@ -34,13 +34,22 @@ impl<S: RunStore> RunFold<S> for StacksOfRuns {
     }
 }
 
+/// Stacks with their counts as folded text.
+fn stacks_text(alloc: Global, most: usize, sums: &StackSums) -> Result<SharedText, AllocError>
+    ensures text { IfOk result (λ text. text ≡ folded_text sums.now) }
+    ensures short { IfOk result (λ text. length text ≤ most) }
+{
+    let text = folded_text(alloc, most, sums)?;
+    Ok(SharedText::from_list(alloc, text))
+}
+
 /// The stacks of some runs as folded text.
 fn text_of_runs<S: RunStore>(
     store: &mut S,
     alloc: Global,
     numbers: &[u32],
     most: usize,
-) -> Result<ListVec<u8>, StoreError>
+) -> Result<SharedText, StoreError>
     ensures told { Told S.StoreState result store.old store.new (λ t text. text ≡ folded_over t numbers.now) }
     ensures asks { AsksIfOpen S.StoreState (is_ok result) store.old store.new }
 {
@@ -48,7 +57,7 @@ fn text_of_runs<S: RunStore>(
         sums: StackSums::new(alloc),
     };
     let all = fold_runs(store, &StacksOfRuns, numbers, rows)?;
-    Ok(folded_text(alloc, most, &all.sums)?)
+    Ok(stacks_text(alloc, most, &all.sums)?)
 }
 
 /// Answers the stacks of folded runs with their counts, over the runs of a selection: a folded text, or the
@@ -68,5 +77,5 @@ pub fn folded_answer<S: RunStore>(
         Err(refusal) => return Ok(Answer::Refused(refusal)),
     };
     let text = text_of_runs(store, alloc, numbers.as_slice(), most)?;
-    Ok(Answer::Text(SharedText::from_list(alloc, text)))
+    Ok(Answer::Text(text))
 }

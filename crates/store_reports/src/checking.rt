@@ -99,7 +99,7 @@ fn check_runs<S: RunStore>(
     alloc: Global,
     numbers: &[u32],
     most: usize,
-) -> Result<ListVec<u8>, StoreError>
+) -> Result<SharedText, StoreError>
     ensures told { Told S.StoreState result store.old store.new (λ t text. AreChecked t numbers.now text) }
     ensures asks { AsksIfOpen S.StoreState (is_ok result) store.old store.new }
 {
@@ -110,7 +110,7 @@ fn check_runs<S: RunStore>(
         most,
     };
     let text = fold_runs(store, &checks, numbers, Vec::new(alloc))?;
-    Ok(ListVec::from_vec(text))
+    Ok(SharedText::from_list(alloc, ListVec::from_vec(text)))
 }
 
 /// Answers what the sums of the events are beside the totals that the files state, for the runs of
@@ -131,5 +131,5 @@ pub fn verify_answer<S: RunStore>(
         Err(refusal) => return Ok(Answer::Refused(refusal)),
     };
     let text = check_runs(store, alloc, numbers.as_slice(), most)?;
-    Ok(Answer::Text(SharedText::from_list(alloc, text)))
+    Ok(Answer::Text(text))
 }

@@ -10,4 +10,4 @@ pub loop-run-preserved : goal.loop-run-preserved
 loop-run-preserved c = line_written entry_line c.args.runs.now c.loop-run.run-index _ c.loop-run.invariant c.run-item.result _ c.loop-run-test.true c.run-item.is c.in_ok-push_run.ensures
 
 pub returns : goal.returns
-returns c = c.from_vec.ensures ∙ ap (λ text. text.items) c.into_bytes.ensures.value ∙ lines_written entry_line c.args.runs.now c.loop-run.run-index _ c.loop-run.invariant c.loop-run-test.false
+returns c = c.from_list.ensures ∙ c.from_vec.ensures ∙ ap (λ text. text.items) c.into_bytes.ensures.value ∙ lines_written entry_line c.args.runs.now c.loop-run.run-index _ c.loop-run.invariant c.loop-run-test.false

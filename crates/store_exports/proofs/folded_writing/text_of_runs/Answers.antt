@@ -8,4 +8,4 @@ pub returns-clause-told : goal.returns-clause-told
 returns-clause-told g c clean t represents =
     let numbers = c.args.numbers.now in
     let all = stacks_added (λ (r : _). r.sums) t numbers _ _ (c.in_ok-all.ensures.told clean t represents) in
-    c.in_ok-folded_text.ensures.text ∙ ap folded_text (all ∙ ap (λ sums. fold with_stack sums (stacks_over t numbers)) c.new.ensures)
+    c.in_ok-stacks_text.ensures.text ∙ ap folded_text (all ∙ ap (λ sums. fold with_stack sums (stacks_over t numbers)) c.new.ensures)

@@ -12,4 +12,4 @@ returns-clause-told g c clean t represents =
     let none : c.new.result.items ≡ [] = search rules in
     let text : c.from_vec.result ≡ c.in_ok-text.text.items = search rules in
     let all = lines_added (λ (v : _). v.items) t (c.in_ok-names.ensures.told early t represents) numbers _ _ (c.in_ok-text.ensures.told clean t mid) in
-    subst (AreChecked t numbers) (sym (text ∙ all.2 ∙ ap (λ l. l ++ all.0) none)) all.1
+    subst (AreChecked t numbers) (sym (c.from_list.ensures ∙ text ∙ all.2 ∙ ap (λ l. l ++ all.0) none)) all.1
