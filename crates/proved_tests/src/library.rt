@@ -135,7 +135,10 @@ fn is_wanted(at: usize, answer: &Answer) -> bool {
     match (at, answer) {
         (0, Answer::Run(1)) => true,
         (1, Answer::Text(text)) => {
-            is_text(text, b"annotate a.c Ir\n7 total\n2 1: int x;\n5 (outside)\n")
+            is_text(
+                text,
+                b"annotate a.c Ir\n7 total\n2 1: int x;\n5 (outside)\n",
+            )
         }
         (2, Answer::Done) | (4, Answer::Done) => true,
         (3, Answer::Refused(Refusal::NoSuchRun)) => true,
