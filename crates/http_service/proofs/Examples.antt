@@ -2,7 +2,7 @@
 use Rattle.std.proofs.Common.{◌≡◌, ℕ, List, [], ◌∷◌, Option, Some, None, Result, Ok, Err, refl, codes}
 use Rattle.std.specs.Fmt.{digits}
 use Rattle.matchit.proofs.OnLiterals.{matchit_on_literals}
-use Rattle.httparse.specs.Grammar.{RequestHead, Field, crlf, trim_ows}
+use Rattle.httparse.specs.Grammar.{Field, crlf, trim_ows}
 use Rattle.percent_encoding.specs.Percent.{percent_decode}
 use Rattle.cg_text.specs.declared.faults.Fault.TheVariants as faults
 use Rattle.profile_records.specs.declared.kinds.Kind.TheVariants as kind

@@ -1,5 +1,5 @@
 -- From a head that was found to one that the bytes begin with.
-use Rattle.std.proofs.Common.{◌≡◌, ℕ, ◌≤◌, List, length, drop, arith}
+use Rattle.std.proofs.Common.{ℕ, ◌≤◌, List, length, drop, arith}
 use Rattle.httparse.specs.Grammar.{RequestHead}
 use Rattle.httparse.specs.Spans.{IsRequestWithin}
 use Rattle.httparse.specs.declared.spans.HeaderSpan.{HeaderSpan}

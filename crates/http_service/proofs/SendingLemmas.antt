@@ -2,8 +2,8 @@
 use Rattle.std.proofs.Common.{◌≡◌, ◌⊎◌, ◌∙◌, inl, inr, ℕ, true, false, Bool, List, [], ◌++◌, refl, sym, ap, subst, append_assoc, append-nil}
 use Rattle.shared_texts.specs.Sinks.{HasGone, HasGoneInPart, HasStopped}
 use Rattle.shared_texts.proofs.SinkLemmas.{gone_as}
-use Rattle.http_exchange.specs.Streams.{HaveTaken, IsFront, Written, Writes, WentAs, bytes_written, is_stopped}
-use Rattle.http_exchange.proofs.Steps.{any_join, cut_first, went_join, written_join, wrote_join}
+use Rattle.http_exchange.specs.Streams.{HaveTaken, IsFront, Written, Writes, WentAs, bytes_written}
+use Rattle.http_exchange.proofs.Steps.{cut_first, went_join, wrote_join}
 use Rattle.http_exchange.specs.declared.statuses.Status.TheVariants.{Okay}
 use Rattle.http_service.specs.Replies.{IsSentAs}
 use Rattle.http_service.specs.declared.replies.Exchange.{Exchange}

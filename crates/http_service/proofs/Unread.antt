@@ -1,5 +1,5 @@
 -- A body that is not read.
-use Rattle.std.proofs.Common.{◌≡◌, inl, List, [], ◌++◌, refl, sym}
+use Rattle.std.proofs.Common.{◌≡◌, inl, [], refl, sym}
 use Rattle.byte_io.specs.Outcomes.{Outcome}
 use Rattle.http_exchange.specs.declared.bodies.Body.{Body}
 use Rattle.http_service.specs.Performed.{HandsOn}

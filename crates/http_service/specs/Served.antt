@@ -2,6 +2,7 @@
 use mathlib.Core.Logic.{inl, inr}
 use Rattle.std.specs.Prelude.{◌≡◌, ℕ, ◌≤◌, List, [], ◌∷◌, ◌++◌, length, Result, Ok, Err}
 use Rattle.run_stores.specs.declared.states.StoreState.{Ghosts}
+use Rattle.run_stores.specs.Calls.{IsFaithful}
 use Rattle.byte_io.specs.Outcomes.{Outcome}
 use Rattle.histories.specs.History.{History}
 use Rattle.histories.specs.Legal.{AreLegal}
@@ -50,6 +51,10 @@ pub record HasServed {S : Type 0} (g : Ghosts S) (limits : Limits) (requests : �
   pub links : Links g limits (steps_of g limits exchanges old new were) old new
   pub legal : (h : History) → HasHistory g h old → AreLegal limits h (steps_of g limits exchanges old new were)
   pub after : (h : History) → HasHistory g h old → HasHistory g (h ++ steps_of g limits exchanges old new were) new
+
+-- the same, where the disk has returned what was written
+abbrev pub Serves : {S : Type 0} → Ghosts S → ℕ → Limits → S → S → Type 0
+Serves g requests limits old new = IsFaithful g new → HasServed g limits requests old new
 
 -- under the standard limits so many requests were served
 pub record CameToServed {S : Type 0} (g : Ghosts S) (requests : ℕ) (old new : S) : Type 0 where

@@ -1,5 +1,5 @@
 -- Requests, in the words of a history.
-use Rattle.std.specs.Prelude.{◌≡◌, List, option_map}
+use Rattle.std.specs.Prelude.{List, option_map}
 use Rattle.profile_records.specs.declared.kinds.Kind.TheVariants as kind
 use Rattle.byte_io.specs.Outcomes.{Outcome}
 use Rattle.histories.specs.Formats.{today}

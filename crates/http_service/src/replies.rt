@@ -1,5 +1,5 @@
 // What is replied to a request, and how it is sent (specs/Replies.antt).
-ghost use Rattle.std.specs.Prelude.{◌≡◌, ◌≤◌, length, List, Ok, Err, Result};
+ghost use Rattle.std.specs.Prelude.{◌≡◌, ◌≤◌, [], length, List, Ok, Err, Result};
 ghost use Rattle.http_exchange.specs.Streams.{Written, Writes};
 ghost use Rattle.http_exchange.specs.Responses.{response_text};
 ghost use Rattle.http_exchange.specs.declared.failings.Failing as check;

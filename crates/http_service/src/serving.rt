@@ -2,7 +2,7 @@
 ghost use Rattle.std.specs.Prelude.{◌≡◌};
 ghost use Rattle.run_stores.specs.Calls.{IsFaithful};
 ghost use Rattle.http_exchange.specs.Routes as spec;
-ghost use Rattle.http_service.specs.Served.{CameToServed, HasServed};
+ghost use Rattle.http_service.specs.Served.{CameToServed, Serves};
 
 use crate::logging::log;
 use crate::{Exchange, Room, answer};
@@ -58,7 +58,7 @@ fn serve_client<'a, S: RunStore>(
 )
     requires router { router.now ≡ spec.routes }
     ensures limits { warehouse.new.limits ≡ warehouse.old.limits }
-    ensures served { IsFaithful S.StoreState warehouse.new.store → HasServed S.StoreState warehouse.old.limits 1 warehouse.old.store warehouse.new.store }
+    ensures served { Serves S.StoreState 1 warehouse.old.limits warehouse.old.store warehouse.new.store }
 {
     let Some((connection, address)) = client else {
         return;
@@ -82,7 +82,7 @@ pub fn serve_on<'a, S: RunStore>(
 ) -> bool
     requires router { router.now ≡ spec.routes }
     ensures limits { warehouse.new.limits ≡ warehouse.old.limits }
-    ensures served { IsFaithful S.StoreState warehouse.new.store → HasServed S.StoreState warehouse.old.limits requests warehouse.old.store warehouse.new.store }
+    ensures served { Serves S.StoreState requests warehouse.old.limits warehouse.old.store warehouse.new.store }
 {
     let mut room = Room {
         head: [0u8; HEAD_LIMIT],
@@ -150,7 +150,7 @@ fn serve_by<S: RunStore>(
 ) -> io::Result<u8>
     requires router { router.now ≡ spec.routes }
     ensures limits { warehouse.new.limits ≡ warehouse.old.limits }
-    ensures served { IsFaithful S.StoreState warehouse.new.store → HasServed S.StoreState warehouse.old.limits service.requests warehouse.old.store warehouse.new.store }
+    ensures served { Serves S.StoreState service.requests warehouse.old.limits warehouse.old.store warehouse.new.store }
 {
     let Some(mut clients) = listen(rt, service.port)? else {
         return Ok(1);
@@ -168,7 +168,7 @@ pub fn serve<S: RunStore>(
     service: Service,
 ) -> io::Result<u8>
     ensures limits { warehouse.new.limits ≡ warehouse.old.limits }
-    ensures served { IsFaithful S.StoreState warehouse.new.store → HasServed S.StoreState warehouse.old.limits service.requests warehouse.old.store warehouse.new.store }
+    ensures served { Serves S.StoreState service.requests warehouse.old.limits warehouse.old.store warehouse.new.store }
 {
     let Ok(router) = routes(rt.alloc()) else {
         println!(rt; "refused: out of memory")?;

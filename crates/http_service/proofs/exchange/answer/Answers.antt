@@ -1,6 +1,6 @@
-use Rattle.std.proofs.Common.{◌≡◌, ℕ, ◌≤◌, List, length, take, drop, inl, sym, subst, arith}
+use Rattle.std.proofs.Common.{◌≤◌, length, take, drop, inl, sym, subst, arith}
 use Rattle.std.proofs.lemmas.List.{length-take}
-use Rattle.http_exchange.specs.Heads.{BeginsWith, IsHeadAt, IsFoundIn, head_limit}
+use Rattle.http_exchange.specs.Heads.{BeginsWith, IsFoundIn, head_limit}
 use Rattle.http_exchange.specs.declared.heads.Head.TheVariants.{Complete}
 use Rattle.http_service.proofs.Heads.{begins_at}
 use Rattle.http_service.proofs.exchange.answer.Goals as goal

@@ -1,4 +1,4 @@
-use Rattle.std.proofs.Common.{◌≡◌, List, [], sym, ap, subst, ◌∙◌}
+use Rattle.std.proofs.Common.{◌≡◌, [], sym, ap, subst, ◌∙◌}
 use Rattle.histories.specs.History.{Command}
 use Rattle.store_commands.specs.Changes.{command_from_change}
 use Rattle.store_histories.specs.Answered.{Answers}

@@ -1,4 +1,4 @@
-use Rattle.std.proofs.Common.{◌∙◌, sym, ap, subst}
+use Rattle.std.proofs.Common.{◌∙◌, sym, subst}
 use Rattle.run_stores.specs.Calls.{IsFaithful}
 use Rattle.histories.specs.Standard.{IsStandard}
 use Rattle.http_service.specs.Served.{HasServed}
