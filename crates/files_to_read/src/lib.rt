@@ -16,4 +16,4 @@ mod record;
 pub use answers::IfStands;
 pub use host::FileToRead;
 pub use looks::Look;
-pub use opening::{FileOf, Standing, Unopened, open_to_read};
+pub use opening::{FileOf, Standing, Unopened, open_to_look, open_to_read};

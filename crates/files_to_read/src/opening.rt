@@ -35,8 +35,8 @@ pub enum Unopened {
     OutOfMemory,
     /// Another wrote meanwhile.
     Moved,
-    /// They are not to be read without a lock: the file is no database with a log, it has two names, the log is no
-    /// plain file, or a journal lies beside it.
+    /// They are not to be read without a lock: the file has two names, the log is no plain file, or a journal lies
+    /// beside it.
     Unfit,
 }
 
@@ -62,14 +62,21 @@ pub struct Standing {
     /// The path of the database file, with no link in it.
     path: PathBuf,
     look: Look,
+    is_read_with_log: bool,
     /// The log, if there was one, and its first bytes.
     log: Option<fs::File>,
     head: [u8; LOG_HEAD],
 }
 
 impl Standing {
+    /// Whether the file says that it is a database which is written and read with a log. Of any other it is to be said
+    /// without a lock why it is refused, and no more. No guarantee: of files the checker knows nothing.
+    pub fn is_read_with_log(&self) -> bool {
+        self.is_read_with_log
+    }
+
     /// Whether the log is the one that was found: where it was begun anew while it was read, what was read of it may be
-    /// old beside a newer database file. No guarantee: of files the checker knows nothing.
+    /// old beside a newer database file. No guarantee: as above.
     pub fn has_same_log(&self) -> io::Result<bool> {
         match &self.log {
             Some(log) => Ok(head_of(log)? == self.head),
@@ -88,7 +95,8 @@ impl Standing {
     }
 }
 
-/// The first bytes of a log, with zeros where it is shorter. No guarantee: as above, and so below, but for `open_to_read`.
+/// The first bytes of a log, with zeros where it is shorter. No guarantee: as above, and so below, but for `open_pair`,
+/// `open_to_look` and `open_to_read`.
 fn head_of(log: &fs::File) -> io::Result<[u8; LOG_HEAD]> {
     let mut head = [0; LOG_HEAD];
     let _count = log.read_at(&mut head, 0)?;
@@ -153,17 +161,12 @@ fn open_log(rt: &HostRuntime, path: &str) -> Result<Option<fs::File>, Unopened> 
     }
 }
 
-/// Opens the database file at a path to read, if it is one that is read with its log, and takes a look at it before.
+/// Opens the database file at a path to read, and takes a look at it before, which any later write changes.
 fn open_database(rt: &HostRuntime, path: &str) -> Result<(fs::File, Look), Unopened> {
     let Some((look, is_plain)) = first_look(rt, path)? else {
         return Err(Unopened::Moved);
     };
-    let db = open_seen(rt, path, &look, is_plain)?;
-    if has_log(&db)? {
-        Ok((db, look))
-    } else {
-        Err(Unopened::Unfit)
-    }
+    Ok((open_seen(rt, path, &look, is_plain)?, look))
 }
 
 /// Opens a log to read, and takes note of its head.
@@ -185,6 +188,49 @@ fn twice(log: &Option<fs::File>) -> io::Result<Option<fs::File>> {
     }
 }
 
+/// Opens the log beside a database file to read, unless a journal lies there. A log that is missing is as one of no
+/// bytes. Both files come back, and the log once more, with its head. `S` stands for what they hold: they are noted as
+/// settled, though nothing was synced.
+fn open_pair<S: Start>(
+    rt: &HostRuntime,
+    path: &str,
+    db: fs::File,
+) -> Result<(Files<FileOf<S>>, Option<fs::File>, [u8; LOG_HEAD]), Unopened>
+    ensures log { IfOk result (λ opened. IsTrue (file_is_usable S.Start opened.0.log)) }
+    ensures db { IfOk result (λ opened. IsTrue (file_is_usable S.Start opened.0.db)) }
+    ensures fresh { IfOk result (λ opened. IsFresh true opened.0.log × IsFresh false opened.0.db) }
+{
+    if !is_free(rt, format!(in rt.alloc(); "{path}-journal")?.as_str())? {
+        return Err(Unopened::Unfit);
+    }
+    let log_path = format!(in rt.alloc(); "{path}-wal")?;
+    let (log, head) = begin_log(open_log(rt, log_path.as_str())?)?;
+    let key = RandomState::new(rt)?.hash_one(&0u8);
+    let files = Files {
+        log: Modelled::new(FileToRead::new(twice(&log)?, key), true, key),
+        db: Modelled::new(FileToRead::new(Some(db), key), false, key),
+    };
+    Ok((files, log, head))
+}
+
+/// Opens the database file at a path and its log to read, as `open_to_read`, and waits for no clock. Nothing tells whether
+/// others write meanwhile: what is read of them is no answer.
+pub fn open_to_look<S: Start>(
+    rt: &HostRuntime,
+    path: &str,
+    _start: S,
+) -> Result<Files<FileOf<S>>, Unopened>
+    ensures log { IfOk result (λ files. IsTrue (file_is_usable S.Start files.log)) }
+    ensures db { IfOk result (λ files. IsTrue (file_is_usable S.Start files.db)) }
+    ensures fresh { IfOk result (λ files. IsFresh true files.log × IsFresh false files.db) }
+{
+    let path = fs::canonicalize(rt, path)?;
+    let (look, is_plain) = look_at(rt, path.as_str())?;
+    let db = open_seen(rt, path.as_str(), &look, is_plain)?;
+    let (files, _log, _head) = open_pair(rt, path.as_str(), db)?;
+    Ok(files)
+}
+
 /// Opens the database file at a path and its log to read, and tells what they were then. A log that is missing is as
 /// one of no bytes. `S` stands for what they hold: they are noted as settled, though nothing was synced. Where others
 /// write meanwhile, what is read agrees with no `S`, and `stands` says so; no clause does.
@@ -199,22 +245,12 @@ pub fn open_to_read<S: Start>(
 {
     let path = fs::canonicalize(rt, path)?;
     let (db, look) = open_database(rt, path.as_str())?;
-    if !is_free(
-        rt,
-        format!(in rt.alloc(); "{}-journal", path.as_str())?.as_str(),
-    )? {
-        return Err(Unopened::Unfit);
-    }
-    let log_path = format!(in rt.alloc(); "{}-wal", path.as_str())?;
-    let (log, head) = begin_log(open_log(rt, log_path.as_str())?)?;
-    let key = RandomState::new(rt)?.hash_one(&0u8);
-    let files = Files {
-        log: Modelled::new(FileToRead::new(twice(&log)?, key), true, key),
-        db: Modelled::new(FileToRead::new(Some(db), key), false, key),
-    };
+    let is_read_with_log = has_log(&db)?;
+    let (files, log, head) = open_pair(rt, path.as_str(), db)?;
     let standing = Standing {
         path,
         look,
+        is_read_with_log,
         log,
         head,
     };

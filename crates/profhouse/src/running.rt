@@ -4,8 +4,8 @@ use file_reading::total_file;
 use http_service::Service;
 use prof_store::OpenError;
 use program_stores::{
-    Beside, StoreInPages, pages_at, pages_to_change_at, pages_to_serve_at, serve_in_pages,
-    work_beside, work_in_pages,
+    Beside, StoreInPages, look_beside, pages_at, pages_to_change_at, pages_to_serve_at,
+    serve_in_pages, work_beside, work_in_pages,
 };
 use sessions::{Task, Work, print_total, task_of};
 use std::io;
@@ -55,23 +55,32 @@ fn only_reads(work: &Work<'_>) -> bool {
     }
 }
 
-/// Does a job over the store at a path, in its pages: one that only reads over the files as they are, if their log is
-/// not long. The job comes back, and why, where they are not plainly a store of this version, or memory was refused. No
-/// guarantee: as `run_over`.
-fn work_in_pages_at<'a>(
+/// Does a job that only reads over the store at a path, in its pages: over the files as they are, if their log is not
+/// long. The job comes back, and why, where it changes the store, where they are not plainly a store of this version, or
+/// memory was refused. No guarantee: as `run_over`.
+fn read_in_pages_at<'a>(
     rt: &'a HostRuntime,
     db: &str,
     patience: Patience,
     job: Job<'a>,
 ) -> Result<io::Result<u8>, (OpenError, Job<'a>)> {
-    let job = match job {
+    match job {
         Job::Work(work) if only_reads(&work) => match pages_at(rt, db, patience) {
-            Ok(store) => return Ok(work_in_pages(rt, io::writer(rt), store, work).0),
-            Err(OpenError::Memory) => return Err((OpenError::Memory, Job::Work(work))),
-            Err(_) => Job::Work(work),
+            Ok(store) => Ok(work_in_pages(rt, io::writer(rt), store, work).0),
+            Err(end) => Err((end, Job::Work(work))),
         },
-        job => job,
-    };
+        job => Err((OpenError::Store, job)),
+    }
+}
+
+/// Does a job over the store at a path, in its pages. The job comes back, and why, where it is not opened. No guarantee:
+/// as `run_over`.
+fn change_in_pages_at<'a>(
+    rt: &'a HostRuntime,
+    db: &str,
+    patience: Patience,
+    job: Job<'a>,
+) -> Result<io::Result<u8>, (OpenError, Job<'a>)> {
     let opened = match &job {
         Job::Work(_) => pages_to_change_at(rt, db, patience),
         Job::Serve(_) => pages_to_serve_at(rt, db, patience),
@@ -82,26 +91,41 @@ fn work_in_pages_at<'a>(
     }
 }
 
-/// Does a job over the store at a path, in its pages, with no other beside. What is not plainly ours is looked at in
-/// its database first, which migrates a store of version 1 and says what is wrong with others. No guarantee: as
-/// `run_over`.
+/// Does a job over the store at a path, in its pages, with no other beside. What is not plainly ours is looked at in its
+/// database first, which migrates a store of version 1 and says what is wrong with others. No guarantee: as `run_over`.
+fn change_alone<'a>(
+    rt: &'a HostRuntime,
+    db: &str,
+    patience: Patience,
+    job: Job<'a>,
+) -> Result<io::Result<u8>, OpenError> {
+    let job = match change_in_pages_at(rt, db, patience, job) {
+        Ok(came_to) => return Ok(came_to),
+        Err((OpenError::Store, job)) => job,
+        Err((end, _)) => return Err(end),
+    };
+    look_at(rt, db, patience)?;
+    match change_in_pages_at(rt, db, patience, job) {
+        Ok(came_to) => Ok(came_to),
+        Err((end, _)) => Err(end),
+    }
+}
+
+/// Does a job over the store at a path, with no other beside. A store that is to be refused is refused before anything of
+/// it is written, as far as `look_beside` sees it. No guarantee: as `run_over`.
 fn work_alone<'a>(
     rt: &'a HostRuntime,
     db: &str,
     patience: Patience,
     job: Job<'a>,
 ) -> Result<io::Result<u8>, OpenError> {
-    let job = match work_in_pages_at(rt, db, patience, job) {
+    let job = match read_in_pages_at(rt, db, patience, job) {
         Ok(came_to) => return Ok(came_to),
         Err((OpenError::Memory, _)) => return Err(OpenError::Memory),
-        Err((OpenError::WrongSchema, _)) => return Err(OpenError::WrongSchema),
         Err((_, job)) => job,
     };
-    look_at(rt, db, patience)?;
-    match work_in_pages_at(rt, db, patience, job) {
-        Ok(came_to) => Ok(came_to),
-        Err((end, _)) => Err(end),
-    }
+    look_beside(rt, db)?;
+    change_alone(rt, db, patience, job)
 }
 
 /// Does a job over the store at a path, which is made where there is none: one that only reads beside others, if it can
@@ -113,7 +137,8 @@ fn work_at<'a>(rt: &'a HostRuntime, db: &str, job: Job<'a>) -> Result<io::Result
         match work_beside(rt, db, work, patience) {
             Beside::Done(came_to) => return Ok(came_to),
             Beside::Moved => return Err(OpenError::Store),
-            Beside::Memory => return Err(OpenError::Memory),
+            Beside::Refused(end) => return Err(end),
+            Beside::First => return change_alone(rt, db, patience, job),
             Beside::Unfit => {}
         }
     }

@@ -1,18 +1,20 @@
-// Reads the store at a path beside others, who may write it meanwhile.
+// Reads the store at a path beside others, who may write it meanwhile, and says why another is refused.
 ghost use Rattle.std.specs.Prelude.{◌≡◌, IfSome};
 ghost use Rattle.read_only_disks.specs.Untouched.{IsUntouched};
 
-use crate::reading::{PAGES_TO_READ, close, store_in_pages, work_in_pages};
-use files_to_read::{IfStands, Standing, Unopened, open_to_read};
+use crate::reading::{LONGEST_LOG, PAGES_TO_READ, Unread, close, store_in_pages, work_in_pages};
+use files_to_read::{FileOf, IfStands, Standing, Unopened, open_to_look, open_to_read};
 use page_runs::PageRuns;
-use plain_tables::StoreError;
+use prof_store::OpenError;
+use read_only_disks::{ReadOnly, read_only};
 use sessions::Work;
 use sqlite_disk::{Disk, Files as DiskFiles, Start, Unknown};
 use sqlite_pager::Options;
+use std::alloc::Global;
 use std::io::Write;
 use std::rt::HostRuntime;
 use std::{fs, io};
-use store_paths::{Patience, TRIES, is_no_file, options_for};
+use store_paths::{Patience, TRIES, is_blank_in, is_migratable, is_no_file, options_for};
 
 /// What a work came to over a store that others may write.
 #[derive(Drop)]
@@ -21,11 +23,16 @@ pub enum Beside {
     Done(io::Result<u8>),
     /// Others wrote while the store was read.
     Moved,
-    /// It is not to be read so: a work that changes it, or files that are not plainly a store which is read with its log.
+    /// The store is refused, and nothing of it was written.
+    Refused(OpenError),
+    /// It is of version 1, and is brought up to this one when it is opened to be changed.
+    First,
+    /// Nothing is known of it: the work changes it, or the files are not to be read so.
     Unfit,
-    /// Memory was refused.
-    Memory,
 }
+
+/// A store that others may write.
+type StoreBeside = PageRuns<ReadOnly<FileOf<Unknown>, Unknown>>;
 
 /// The same work, to be done once more, if it changes nothing, whatever it finds.
 fn again<'a>(work: &Work<'a>) -> Option<Work<'a>>
@@ -67,7 +74,7 @@ fn has_lasting_source(rt: &HostRuntime, work: &Work<'_>) -> bool {
 fn beside_of(unopened: Unopened) -> Beside {
     match unopened {
         Unopened::Moved => Beside::Moved,
-        Unopened::OutOfMemory => Beside::Memory,
+        Unopened::OutOfMemory => Beside::Refused(OpenError::Memory),
         Unopened::Io(_) | Unopened::Unfit => Beside::Unfit,
     }
 }
@@ -77,15 +84,87 @@ fn has_same_log(standing: &Standing) -> bool {
     matches!(standing.has_same_log(), Ok(true))
 }
 
-/// Why a store cannot be read beside others, where this was found.
-fn unread(rt: &HostRuntime, standing: &Standing, error: StoreError) -> Beside {
-    match error {
-        StoreError::Memory => Beside::Memory,
-        StoreError::Store if !has_same_log(standing) => Beside::Moved,
-        StoreError::Store => match standing.stands(rt) {
-            Ok(true) => Beside::Unfit,
-            _ => Beside::Moved,
-        },
+/// Whether what was read is what one commit left.
+fn has_stood(rt: &HostRuntime, standing: &Standing) -> bool {
+    has_same_log(standing) && matches!(standing.stands(rt), Ok(true))
+}
+
+/// Whether the database in files that are only read is to be migrated, as `is_migratable`. One that is not made yet, or
+/// was left half made, has no schema.
+fn is_to_be_migrated<D: Disk + Drop, S: Start>(
+    alloc: Global,
+    files: DiskFiles<ReadOnly<D, S>>,
+    options: Options,
+) -> Result<bool, OpenError> {
+    let mut files = files;
+    if is_blank_in(alloc, &mut files)? {
+        return Err(OpenError::WrongSchema);
+    }
+    is_migratable(alloc, files, options)
+}
+
+/// Why a store is refused that its pages refuse, by what its database says over files that others may write. `Unfit`
+/// where its log cannot be held in memory.
+fn refused_in<D: Disk + Drop, S: Start>(
+    rt: &HostRuntime,
+    files: DiskFiles<D>,
+    options: Options,
+    standing: Standing,
+) -> Beside
+    requires log { IsUntouched D.Disk S.Start.log files.log }
+    requires db { IsUntouched D.Disk S.Start.db files.db }
+{
+    let Some(files) = read_only::<D, S>(rt.alloc(), files, LONGEST_LOG) else {
+        return Beside::Unfit;
+    };
+    let found = is_to_be_migrated(rt.alloc(), files, options);
+    if !has_stood(rt, &standing) {
+        return Beside::Moved;
+    }
+    match found {
+        Ok(true) => Beside::First,
+        Ok(false) => Beside::Refused(OpenError::Store),
+        Err(end) => Beside::Refused(end),
+    }
+}
+
+/// The same of the store at a path.
+fn refused_at(rt: &HostRuntime, path: &str) -> Beside {
+    let Ok(options) = options_for(rt, PAGES_TO_READ) else {
+        return Beside::Unfit;
+    };
+    match open_to_read(rt, path, Unknown) {
+        Ok((files, standing)) => refused_in::<_, Unknown>(rt, files, options, standing),
+        Err(unopened) => beside_of(unopened),
+    }
+}
+
+/// What comes of a store at a path that cannot be read beside others, where this was found.
+fn unread(rt: &HostRuntime, path: &str, standing: &Standing, why: Unread) -> Beside {
+    match why {
+        Unread::Memory => Beside::Refused(OpenError::Memory),
+        _ if !has_stood(rt, standing) => Beside::Moved,
+        Unread::Unheld => Beside::Unfit,
+        Unread::Store => refused_at(rt, path),
+    }
+}
+
+/// The store at a path, to be read beside others, and what its files were; or what comes of it.
+fn store_beside(rt: &HostRuntime, path: &str) -> Result<(StoreBeside, Standing), Beside> {
+    let Ok(options) = options_for(rt, PAGES_TO_READ) else {
+        return Err(Beside::Unfit);
+    };
+    let (files, standing) = match open_to_read(rt, path, Unknown) {
+        Ok(opened) => opened,
+        Err(unopened) => return Err(beside_of(unopened)),
+    };
+    match store_in_pages(rt.alloc(), files, options) {
+        Ok(store) if has_same_log(&standing) => Ok((store, standing)),
+        Ok(store) => {
+            close(store);
+            Err(Beside::Moved)
+        }
+        Err(why) => Err(unread(rt, path, &standing, why)),
     }
 }
 
@@ -112,46 +191,24 @@ fn work_over_pages<'a, D: Disk + Drop>(
     printed(out, came_to)
 }
 
-/// Does a work that only reads over the store in files that others may write. `work_in_pages` says what is answered over
-/// what was read, `Standing` when that is what one commit left.
-fn work_over_files<'a, D: Disk + Drop, S: Start>(
-    rt: &'a HostRuntime,
-    files: DiskFiles<D>,
-    options: Options,
-    standing: Standing,
-    work: Work<'a>,
-) -> Beside
-    requires log { IsUntouched D.Disk S.Start.log files.log }
-    requires db { IsUntouched D.Disk S.Start.db files.db }
-{
-    match store_in_pages::<D, S>(rt.alloc(), files, options) {
-        Ok(store) => {
-            if has_same_log(&standing) {
-                work_over_pages(rt, store, standing, work)
-            } else {
-                close(store);
-                Beside::Moved
-            }
-        }
-        Err(error) => unread(rt, &standing, error),
-    }
-}
-
-/// Does a work that only reads over the store at a path, once.
+/// Does a work that only reads over the store at a path, once. A file that is read without a log is locked for that.
+/// `work_in_pages` says what is answered over what was read, `Standing` when that is what one commit left.
 fn work_once<'a>(rt: &'a HostRuntime, path: &str, work: Work<'a>) -> Beside {
-    let Ok(options) = options_for(rt, PAGES_TO_READ) else {
-        return Beside::Unfit;
-    };
-    match open_to_read(rt, path, Unknown) {
-        Ok((files, standing)) => {
-            work_over_files::<_, Unknown>(rt, files, options, standing, work)
+    match store_beside(rt, path) {
+        Ok((store, standing)) if standing.is_read_with_log() => {
+            work_over_pages(rt, store, standing, work)
         }
-        Err(unopened) => beside_of(unopened),
+        Ok((store, _standing)) => {
+            close(store);
+            Beside::Unfit
+        }
+        Err(came_to) => came_to,
     }
 }
 
 /// Does a work over the store at a path beside others, if it only reads: no lock is taken, and nothing is made or
-/// changed. Where others write meanwhile, it begins anew, as long as patience lasts.
+/// changed. Where others write meanwhile, it begins anew, as long as patience lasts. No guarantee: of the files at a path
+/// the checker knows nothing.
 pub fn work_beside<'a>(
     rt: &'a HostRuntime,
     path: &str,
@@ -173,4 +230,44 @@ pub fn work_beside<'a>(
         }
     }
     Beside::Moved
+}
+
+/// Whether the pages of the store at a path say that it may be changed, whoever writes it meanwhile.
+fn may_be_changed_at(rt: &HostRuntime, path: &str) -> bool {
+    let (Ok(files), Ok(options)) = (
+        open_to_look(rt, path, Unknown),
+        options_for(rt, PAGES_TO_READ),
+    ) else {
+        return false;
+    };
+    match store_in_pages::<_, Unknown>(rt.alloc(), files, options) {
+        Ok(store) => {
+            let may_be_changed = store.may_be_changed();
+            close(store);
+            may_be_changed
+        }
+        Err(_) => false,
+    }
+}
+
+/// Refuses the store at a path that is not to be opened to be changed, for what it is: no lock is taken, and nothing is
+/// made or changed. The opening itself refuses what was not seen here: files that are not to be read beside others, or that
+/// others write. No guarantee: as `work_beside`.
+pub fn look_beside(rt: &HostRuntime, path: &str) -> Result<(), OpenError> {
+    if is_no_file(path) || may_be_changed_at(rt, path) {
+        return Ok(());
+    }
+    match store_beside(rt, path) {
+        Ok((store, standing)) => {
+            let may_be_changed = store.may_be_changed();
+            close(store);
+            if may_be_changed || !has_stood(rt, &standing) {
+                Ok(())
+            } else {
+                Err(OpenError::WrongSchema)
+            }
+        }
+        Err(Beside::Refused(end)) => Err(end),
+        Err(_) => Ok(()),
+    }
 }

@@ -6,8 +6,8 @@ mod beside;
 // Works over a store in the pages of its file.
 mod reading;
 
-pub use beside::{Beside, work_beside};
+pub use beside::{Beside, look_beside, work_beside};
 pub use reading::{
-    StoreInPages, pages_at, pages_to_change_at, pages_to_serve_at, serve_in_pages, store_in_pages,
-    work_in_pages,
+    StoreInPages, Unread, pages_at, pages_to_change_at, pages_to_serve_at, serve_in_pages,
+    store_in_pages, work_in_pages,
 };

@@ -39,28 +39,52 @@ const PAGES_TO_CHANGE: usize = 500;
 const CELLS_TO_KEEP: usize = 65_536;
 
 /// The longest log that is read whole into memory, in bytes: 64 MiB. A longer one is recovered in its file.
-const LONGEST_LOG: usize = 0x400_0000;
+pub(crate) const LONGEST_LOG: usize = 0x400_0000;
 
 /// A store in the pages of its file, to be read and changed.
 pub type StoreInPages = PageRuns<File>;
 
+/// Why the store in files is not read from its pages.
+#[derive(Clone, Copy, Debug, PartialEq, Eq)]
+pub enum Unread {
+    /// Its log cannot be held in memory: it is too long, or cannot be read whole.
+    Unheld,
+    /// Memory was refused.
+    Memory,
+    /// The files are not plainly a store of this version. Their database says why.
+    Store,
+}
+
+impl From<StoreError> for Unread {
+    ghost use Rattle.std.specs.Prelude.{◌≡◌};
+    ghost use Rattle.program_stores.specs.Unread.{unread};
+
+    ghost from_gives = { λ error end. end ≡ unread error };
+
+    fn from(error: StoreError) -> Unread {
+        match error {
+            StoreError::Memory => Unread::Memory,
+            StoreError::Store => Unread::Store,
+        }
+    }
+}
+
 /// The store in files that are as they were found, to be read from its pages. No byte of them is written. Where they
-/// hold rows that represent a history, the store represents it. `Memory`; `Store` where they are not plainly a store of
-/// this version, or cannot be read so; their database says why. Where the log cannot be held in memory it is `Store`.
+/// hold rows that represent a history, the store represents it.
 pub fn store_in_pages<D: Disk + Drop, S: Start>(
     alloc: Global,
     files: DiskFiles<D>,
     options: Options,
-) -> Result<PageRuns<ReadOnly<D, S>>, StoreError>
+) -> Result<PageRuns<ReadOnly<D, S>>, Unread>
     requires log { IsUntouched D.Disk S.Start.log files.log }
     requires db { IsUntouched D.Disk S.Start.db files.db }
     ensures { IfOk result (λ store. IsFaithful state_of store → (h : History) (t : Tables) → TablesRepresent h t
         → HoldsIn t (page_size store.file, seen_image D.Disk files.log files.db) → RepresentsHistory state_of h store) }
 {
     let Some(files) = read_only(alloc, files, LONGEST_LOG) else {
-        return Err(StoreError::Store);
+        return Err(Unread::Unheld);
     };
-    PageRuns::open(alloc, files, options, 0)
+    Ok(PageRuns::open(alloc, files, options, 0)?)
 }
 
 /// Closes a store. What was committed stands in its files, or in the log.
@@ -77,7 +101,11 @@ pub fn pages_at(
 ) -> Result<PageRuns<ReadOnly<File, Unknown>>, OpenError> {
     let files = files_at(rt, path, patience)?;
     let options = options_for(rt, PAGES_TO_READ)?;
-    Ok(store_in_pages(rt.alloc(), files, options)?)
+    match store_in_pages(rt.alloc(), files, options) {
+        Ok(store) => Ok(store),
+        Err(Unread::Memory) => Err(OpenError::Memory),
+        Err(Unread::Unheld | Unread::Store) => Err(OpenError::Store),
+    }
 }
 
 /// The store at a path, to be read and changed in its pages, which keeps so many cells of small runs in memory.

@@ -1,3 +1,4 @@
 pub mod Errors
 pub mod NewStores
+pub mod Paths
 pub mod Stores

@@ -1,14 +1,23 @@
 -- What the file of a new store holds.
 use Rattle.std.specs.Prelude.{ℕ, Bool, not, ◌&&◌, List, [], zip, nat_eq}
 use Rattle.std.specs.List.{list_any}
+use Rattle.sqlite_disk.specs.declared.Disk.{Ghosts}
+use Rattle.sqlite_store.specs.declared.store.FileStore.{FileStore}
 use Rattle.sqlite_trees.specs.Tree.{Trees}
+use Rattle.sqlite.specs.Closing.{IsCopied}
 use Rattle.sqlite.specs.Files.{HoldsDatabase}
+use Rattle.sqlite.specs.Held.{Held}
 use Rattle.plain_tables.specs.Tables.{new_tables}
 use Rattle.store_schema.specs.Tables.{Holds}
 
 -- a database file of these bytes, with no log beside it, has the tables of a new store; the kit promises no more than that some are there (`∥ ∥₁`)
 abbrev pub IsNewStore : List ℕ → Type 0
 IsNewStore bytes = ∥ ((db : Trees) × HoldsDatabase (record { log = []; db = bytes }) db × Holds new_tables db) ∥₁
+
+-- a database was closed: its last commit is in this file, whatever its log says
+pub record IsFileOf {D : Type 0} {g : Ghosts D} (c : Held (FileStore D g)) (file : D) : Type 0 where
+  pub log : D
+  pub copied : IsCopied c (record { log = log; db = file })
 
 -- some byte is neither zero nor the one in its place among others, as far as these go
 abbrev pub is_other : List ℕ → List ℕ → Bool

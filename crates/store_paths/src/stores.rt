@@ -1,8 +1,9 @@
 // Makes, finds, migrates or refuses the store in a database, and that at a path.
-ghost use Rattle.std.specs.Prelude.{IfOk, IfErr};
+ghost use Rattle.std.specs.Prelude.{◌↔◌, IsTrue, IfOk, IfErr};
 ghost use Rattle.sqlite.specs.Held.{state};
 ghost use Rattle.sqlite.specs.State.{HasCleanDisk};
 ghost use Rattle.prof_store.specs.Shown.{shown, IsFaithful};
+ghost use Rattle.store_paths.specs.Paths.{IsNoFile, KeepsPages};
 ghost use Rattle.store_paths.specs.Stores.{IsReadyIn, Refuses, TakesUp};
 
 use crate::errors::{error_of_host, error_of_open};
@@ -42,13 +43,17 @@ fn is_new_at(rt: &HostRuntime, path: &str) -> Result<bool, OpenError> {
 }
 
 /// Whether a path is one that SQLite takes for something else than a file.
-pub fn is_no_file(path: &str) -> bool {
+pub fn is_no_file(path: &str) -> bool
+    ensures { IsTrue result ↔ IsNoFile path.now }
+{
     path == ":memory:" || path.starts_with("file:")
 }
 
 /// How its pages are read and written: so many are kept, and so many that were written, before these go to the log,
-/// which a salt of chance marks.
-pub fn options_for(rt: &HostRuntime, pages: usize) -> Result<Options, OpenError> {
+/// which a salt of chance marks. That it is of chance no clause says.
+pub fn options_for(rt: &HostRuntime, pages: usize) -> Result<Options, OpenError>
+    ensures { IfOk result (KeepsPages pages) }
+{
     let Ok(keys) = RandomState::new(rt) else {
         return Err(OpenError::Store);
     };

@@ -1,8 +1,8 @@
-use Rattle.std.proofs.Common.{◌≡◌, refl, true, Result, Ok, sym, subst}
+use Rattle.std.proofs.Common.{Result, Ok, Err, IfOk, refl, true, sym, subst}
 use Rattle.std.proofs.Math.Logic.{∥∥₁_map}
 use Rattle.sqlite.specs.Closing.{IsCopied}
 use Rattle.sqlite.specs.Effect.{Database}
-use Rattle.sqlite.specs.Files.{over_files, file_state, image_of}
+use Rattle.sqlite.specs.Files.{file_state, image_of}
 use Rattle.sqlite.specs.Held.{Held}
 use Rattle.sqlite.specs.State.{State, HasCleanDisk}
 use Rattle.sqlite_disk.specs.declared.Disk.{Ghosts}
@@ -11,9 +11,7 @@ use Rattle.sqlite_store.specs.declared.store.FileStore.{FileStore}
 use Rattle.plain_tables.specs.Tables.{new_tables}
 use Rattle.store_schema.specs.Created.{Creates}
 use Rattle.store_schema.specs.Tables.{Holds}
-use Rattle.store_schema.specs.declared.errors.OpenError.{OpenError}
-use Rattle.store_paths.specs.NewStores.{IsNewStore}
-use Rattle.store_paths.specs.Stores.{IsReadyIn}
+use Rattle.store_paths.specs.NewStores.{IsFileOf, IsNewStore}
 use Rattle.store_paths.proofs.new_stores.new_store.Goals as goal
 
 committed : {old new : State} → Creates true old new → Holds new_tables new.committed.trees
@@ -25,12 +23,14 @@ module _ {D : Type 0} {g : Ghosts D} where
   copied_new : (old new : Held (FileStore D g)) (files : Files D) → Creates true (file_state old) (file_state new) → IsCopied new files → IsNewStore (image_of g files).db
   copied_new old new files creates copied = ∥∥₁_map copied.seen.alone (λ held. ((file_state new).committed.trees, held, committed creates))
 
-  made_new : {T : Type 0} (old new : Held (FileStore D g)) (files : Files D) (result : Result T OpenError) (x : T) → result ≡ Ok x
-      → (HasCleanDisk (file_state new) → IsReadyIn over_files true result old new) → IsCopied new files → IsNewStore (image_of g files).db
-  made_new old new files result x is ready copied =
-      copied_new old new files (subst (λ r. IsReadyIn over_files true r old new) is (ready copied.was_clean)) copied
+  made_new : (old new : Held (FileStore D g)) (file : D) → (HasCleanDisk (file_state new) → Creates true (file_state old) (file_state new)) → IsFileOf new file
+      → IsNewStore (g.seen file)
+  made_new old new file made is_file = copied_new old new _ (made is_file.copied.was_clean) is_file.copied
 
-pub returns-in-Ok-close_files : goal.returns-in-Ok-close_files
-returns-in-Ok-close_files c =
-    made_new c.in-Ok.conn c.ready_in.result.1 c.in-Ok-close_files.files c.ready_in.result.0 c.in-Ok-default.field-0-0
-    c.in-Ok-default.is-0 c.ready_in.ensures (c.in-Ok-close_files.ensures.copied refl)
+if_ok : {X E : Type 0} {P Q : X → Type 0} (r : Result X E) → ((x : X) → P x → Q x) → IfOk r P → IfOk r Q
+if_ok (Ok x) so is = so x is
+if_ok (Err e) so is = tt
+
+pub returns : goal.returns
+returns c =
+    if_ok c.file_of.result (λ file. made_new c.in_ok-conn.conn c.in_ok-conn-2.conn file c.in_ok-conn-2.ensures) c.file_of.ensures
