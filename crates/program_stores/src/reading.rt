@@ -55,20 +55,6 @@ pub enum Unread {
     Store,
 }
 
-impl From<StoreError> for Unread {
-    ghost use Rattle.std.specs.Prelude.{◌≡◌};
-    ghost use Rattle.program_stores.specs.Unread.{unread};
-
-    ghost from_gives = { λ error end. end ≡ unread error };
-
-    fn from(error: StoreError) -> Unread {
-        match error {
-            StoreError::Memory => Unread::Memory,
-            StoreError::Store => Unread::Store,
-        }
-    }
-}
-
 /// The store in files that are as they were found, to be read from its pages. No byte of them is written. Where they
 /// hold rows that represent a history, the store represents it.
 pub fn store_in_pages<D: Disk + Drop, S: Start>(
@@ -84,7 +70,11 @@ pub fn store_in_pages<D: Disk + Drop, S: Start>(
     let Some(files) = read_only(alloc, files, LONGEST_LOG) else {
         return Err(Unread::Unheld);
     };
-    Ok(PageRuns::open(alloc, files, options, 0)?)
+    match PageRuns::open(alloc, files, options, 0) {
+        Ok(store) => Ok(store),
+        Err(StoreError::Memory) => Err(Unread::Memory),
+        Err(StoreError::Store) => Err(Unread::Store),
+    }
 }
 
 /// Closes a store. What was committed stands in its files, or in the log.
