@@ -35,7 +35,8 @@ FUNCTIONS = ("GET /reports/function?run=1&", "GET /reports/function?run=2&")
 EXPORTS = ("GET /csv", "GET /folded", "POST /annotate")
 # The words of each script, its status for a fault, what it asks, and which answers may have any bytes.
 SCRIPTS = {
-    "fail_if_costlier": [(("main", "2", "Ir", "5%"), 2, ("GET /groups", *REPORTS), ())],
+    "fail_if_costlier": [(("main", "2", "Ir", "5%"), 2, ("GET /groups", *REPORTS), ()),
+                         (("main", "2", "Ir", "5%", "--each=99999%"), 2, ("GET /groups", *FUNCTIONS), ())],
     "markdown_difference": [(("2", "main", "Ir"), 2, ("GET /runs", "GET /groups", *REPORTS), ())],
     "postgres_load": [((STORE,), 2, ("GET /runs", "GET /csv", "psql"), ())],
     "profhouse_history": [
