@@ -8,7 +8,7 @@ import re
 from collections import namedtuple
 
 from profhouse_http import CALL_LINE, SHARE_LINE, escaped, fields_of, plain, rows_of, said_by
-from profhouse_names import names_of
+from profhouse_names import matched, names_of
 from profhouse_script import Fault, WordFault, shown
 
 KEYS = ("object", "file", "function", "line", "thread")
@@ -131,6 +131,32 @@ class Functions:
             costs = self_costs(self.server, of, self.event, "object")
             self.objects |= set(costs.rows) if costs else set()
         self.names.update(names_of(new, self.objects))
+
+
+class Matched:
+    """The costs of runs by names as they are compared, and the names that stand behind each in each run."""
+
+    def __init__(self, server, event, key, how):
+        self.key, self.how, self.names, self.behind = key, how, {}, {}
+        self.functions = Functions(server, event) if key == "function" else None
+
+    def take(self, number, of, costs):
+        """The same costs by the names as they are compared; equal ones are added up."""
+        if self.functions:
+            self.functions.take(of, costs.rows)
+        names = self.functions.names if self.functions else names_of(costs.rows)
+        rows = {}
+        for key, cost in costs.rows.items():
+            it = matched(names[key], self.key, self.how)
+            self.names.setdefault(it.key, it)
+            self.behind.setdefault((number, it.key), []).append(names[key])
+            rows[it.key] = rows.get(it.key, 0) + cost
+        return Costs(costs.total, rows)
+
+    def called(self, key):
+        """The name of a function at the other end of a call, as it is compared."""
+        known = self.functions.names.get(key) or names_of([key], self.functions.objects)[key]
+        return matched(known, "function", self.how).key
 
 
 # Calls.

@@ -35,6 +35,26 @@ def split(key, known):
     return Name(key, of, key[len(of) + 1:])
 
 
+def last_part(path):
+    return path.rpartition(b"/")[2] or path
+
+
+# What of a path counts where runs are compared.
+PLACES = {"path": lambda path: path, "last": last_part, "name": lambda path: b""}
+
+
+def matched(name, key, how):
+    """A name as it is compared: builds in two folders have two paths for one object or file."""
+    if how == "path" or key == "thread":
+        return name
+    if name.object is None:
+        file, colon, line = name.key.rpartition(b":") if key == "line" else (name.key, b"", b"")
+        short = last_part(file) + colon + line
+        return Name(short, None, short)
+    place = PLACES[how](name.object)
+    return Name(place + b":" + name.name if place else name.name, place, name.name)
+
+
 def bare(name):
     """A name without what stands in its brackets: ns::Cache<int, long>::get(int) is ns::Cache::get."""
     text, at, depth = [], 0, 0
@@ -71,13 +91,14 @@ def fitting(names, word):
     return []
 
 
-def one_of(names, word, what="function"):
-    """The name that a word fits alone. Where it fits several, they are listed."""
+def one_of(names, word, what="function", hint=""):
+    """The name that a word fits alone. Where it fits several, they are listed, with a hint where they differ in the object."""
     found = fitting(names, word)
     if not found:
         raise WordFault(f"no {what} fits {shown(word)}")
     if len(found) > 1:
         more = "" if len(found) <= LISTED else f"\n  .. and {len(found) - LISTED} more"
         listed = "".join(f"\n  {shown(it.key)}" for it in sorted(found)[:LISTED])
-        raise WordFault(f"{len(found)} {what}s fit {shown(word)}; give more of the name, or a whole line:{listed}{more}")
+        told = hint if len({it.name for it in found}) == 1 else ""
+        raise WordFault(f"{len(found)} {what}s fit {shown(word)}; give more of the name, or a whole line{told}:{listed}{more}")
     return found[0]

@@ -267,7 +267,7 @@ def cases_of_names(tried):
     def cost(*words):
         ran = tried.script(NAME, "trend", "--db", "names.db", "--event", "Ir", "--csv", *words)
         return int(rows_of(ran)[1][1]) if ran.status == 0 else ran.err
-    said = b"profhouse_history: 2 functions fit twice; give more of the name, or a whole line:\n  /a/x:twice\n  /b:c/x:twice\n"
+    said = b"profhouse_history: 2 functions fit twice; give more of the name, or a whole line, or --match last:\n  /a/x:twice\n  /b:c/x:twice\n"
     tried.expect("a name in two objects", cost("function", "twice"), said)
     for word, wanted in (("/b:c/x:twice", 5), ("a\\b", 6), ("a\\\\b", 6), (b"\xe9t\xe9", 7), ("\\xe9t\\xe9", 7), ("operator<<", 8), ("<A as B>::run", 9),
                          ("run", 10), ("B>::r", 9), (b"tab\t", 12), ("tab\\x09here", 12), (b"\xe9t", 7)):
@@ -277,6 +277,34 @@ def cases_of_names(tried):
     tried.expect_refusal("a part of an object is none of a function", ran, b"no function fits b:c/x:run")
     ran = tried.script(NAME, "trend", "--db", "names.db", "--event", "Ir", "--json", "function", "/b:c/x:run", "/b:c/x:label")
     tried.expect("names like columns", json.loads(ran.out), [{"run": 1, "label": "names.cg", "costs": {"/b:c/x:run": 10, "/b:c/x:label": 11}}])
+
+
+def cases_of_folders(tried):
+    """Builds in two folders: `work` costs 700 of 1000 more in the second, and is called five times more; the library has two
+    objects of one name, and the function `same` of both."""
+    for number, cost, calls in ((1, 1000, 5), (2, 1700, 10)):
+        tried.write(f"build{number}.cg", f"events: Ir\nob=/b/{number}/app\nfl=/b/{number}/a.c\nfn=main\n1 10\ncfn=work\ncalls={calls} 1\n2 {cost}\nfn=work\n3 {cost}\n"
+                                         f"ob=/l/x.so\nfl=x.c\nfn=same\n1 {number}\nob=/m/x.so\nfn=same\n1 20\n")
+    tried.profhouse("import", "--db", "folders.db", "build1.cg", "build2.cg")
+
+    def ask(command, *words):
+        ran = tried.script(NAME, command, "--db", "folders.db", "--event", "Ir", *words)
+        return ran.out.decode().splitlines() if ran.status == 0 else ran.err.decode().splitlines()
+    tried.expect("a name in two folders", ask("trend", "function", "work"), [
+        "profhouse_history: 2 functions fit work; give more of the name, or a whole line, or --match last:", "  /b/1/app:work", "  /b/2/app:work"])
+    tried.expect("by the last part of the path", ask("trend", "function", "work", "--match", "last", "--csv")[1:], [
+        "1,1000,,,0,+0.00,build1.cg", "2,1700,700,+70.00,700,+70.00,build2.cg"])
+    tried.expect("two objects of one name", ask("trend", "function", "x.so:same", "--match", "last", "--csv")[1:], [
+        "1,21,,,0,+0.00,build1.cg", "2,22,1,+4.76,1,+4.76,build2.cg"])
+    tried.expect("what grew by whole paths", ask("grew", "1", "2")[-1],
+                 "Some names are gone in one place and new in another, as where builds have folders of their own: --match last")
+    tried.expect("what grew by last parts", ask("grew", "1", "2", "--match", "last", "--csv")[1:], ["700,+70.00,1000,1700,app:work", "1,+4.76,21,22,x.so:same"])
+    tried.expect("by names alone", ask("grew", "1", "2", "--match", "name", "--csv")[1:], ["700,+70.00,1000,1700,work", "1,+4.76,21,22,same"])
+    tried.expect("files by last parts", ask("grew", "1", "2", "file", "--match", "last", "--csv")[1:], ["700,+69.30,1010,1710,a.c", "1,+4.76,21,22,x.c"])
+    tried.expect("lines by last parts", ask("grew", "1", "2", "line", "--match", "last", "--csv")[1:], ["700,+70.00,1000,1700,a.c:3", "1,+4.76,21,22,x.c:1"])
+    tried.expect("jumps by last parts", ask("jumps", "--match", "last"), [
+        "jumps of Ir by function in 2 runs: more than 2%", "run  change            before   cost  function", "  2    +700  +70.00 %   1,000  1,700  app:work",
+        f"{'':40}called by app:main: +700, +5 calls", "  2      +1   +4.76 %      21     22  x.so:same", "run 2 (build2.cg)"])
 
 
 def in_a_terminal(tried, *words, columns=80):
@@ -312,6 +340,7 @@ def cases(tried):
     tried.expect_help(NAME)
     make_store(tried)
     cases_of_names(tried)
+    cases_of_folders(tried)
     tried.expect("a store", tried.script(NAME, "trend", "--db", "s.db", "--event", "Ir", "--group", "main").out, TOTAL_TEXT.encode())
     tried.expect_refusal("no store", tried.script(NAME, "jumps", "--db", "none.db", "--event", "Ir"), b"there is no store none.db")
     tried.expect_refusal("neither store nor server", tried.script(NAME, "jumps", "--event", "Ir"), b"--db D or --api URL")
