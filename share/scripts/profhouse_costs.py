@@ -8,7 +8,7 @@ import re
 from collections import namedtuple
 
 from profhouse_http import CALL_LINE, SHARE_LINE, escaped, fields_of, plain, rows_of, said_by
-from profhouse_names import matched, names_of
+from profhouse_names import Name, matched, names_of
 from profhouse_script import Fault, WordFault, shown
 
 KEYS = ("object", "file", "function", "line", "thread")
@@ -152,6 +152,10 @@ class Matched:
             self.behind.setdefault((number, it.key), []).append(names[key])
             rows[it.key] = rows.get(it.key, 0) + cost
         return Costs(costs.total, rows)
+
+    def place(self, file):
+        """A file as it is compared."""
+        return matched(Name(file, None, file), "file", self.how).key
 
     def called(self, key):
         """The name of a function at the other end of a call, as it is compared."""

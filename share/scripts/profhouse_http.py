@@ -5,8 +5,10 @@ are printed. It is imported, not run. A script that is copied elsewhere needs th
 """
 import base64
 import contextlib
+import csv
 import ctypes
 import http.client
+import io
 import os
 import re
 import signal
@@ -46,6 +48,12 @@ COST_LINE = re.compile(rb"(%s) (%s)" % (COST, NAME))
 CALL_LINE = re.compile(rb"(%s) ([0-9]{1,4000}) (%s)" % (COST, NAME))
 # A line of `verify`: run, event, sum, what the file states, and whether that agrees.
 SUM_LINE = re.compile(rb"%s [^\x00-\x20\x7f]+ ([0-9]{1,4000}) (?:[0-9]{1,4000} (?:ok|differs)|none none)" % NUMBER)
+# A line or a cost of an export. (For PostgreSQL a line that is \\. would end COPY.)
+DIGITS = re.compile("[0-9]{1,19}")
+# A line of a profile has a mebibyte, and so has a name.
+LONGEST_FIELD = 1 << 21
+# What stands for the byte 0 meanwhile, which Python's CSV has not before 3.11.
+ZERO = "\u0100"
 REFUSAL = re.compile(rb"refused: [^\x00-\x1f\x7f]+\n")
 
 # A run that a server lists; the label is bytes.
@@ -287,6 +295,25 @@ def rows_of(report, form, head, event):
     if report.partition(b"\n")[0] != f"{head} ".encode() + escaped(os.fsencode(event)) or not rows or rows[0][1] != b"total":
         raise Fault(f"the answer is no report `{head} {shown(event)}`")
     return rows[0][0], rows[1:]
+
+
+def rows_of_csv(text):
+    """The rows of an export of costs: object, file, function and event as reports print them, line and cost as digits."""
+    csv.field_size_limit(LONGEST_FIELD)
+    lines = io.TextIOWrapper(io.BytesIO(text), encoding="latin-1", newline="")
+    rows = csv.reader((line.replace("\0", ZERO) for line in lines), strict=True)
+
+    def printed(field):
+        return escaped(field.replace(ZERO, "\0").encode("latin-1"))
+    try:
+        if next(rows, None) != ["object", "file", "function", "line", "event", "cost"] or not text.endswith(b"\n"):
+            raise Fault("the answer is no CSV of costs")
+        for name, path, function, line, event, cost in rows:
+            if not DIGITS.fullmatch(line) or not DIGITS.fullmatch(cost):
+                raise ValueError(f"{line} and {cost} are no numbers")
+            yield printed(name), printed(path), printed(function), line, printed(event), cost
+    except (ValueError, csv.Error) as error:
+        raise Fault(f"the answer has a row out of form: {said_by(str(error).encode())}") from error
 
 
 def groups_of(server):

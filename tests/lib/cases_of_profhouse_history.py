@@ -195,6 +195,9 @@ def cases_of_jumps(tried, ask):
                                       "name": f"{APP}:{GET}", "calls": [f"called by {APP}:main: +500, +5 calls"]})
     tried.expect("some rows", ask("jumps", "--event", "Ir", "--group", "main", "--rows", "1").out.decode().splitlines()[-2:],
                  ["1 smaller jumps are not shown", "run 5 (5.cg)"])
+    tried.expect("with all that they call", found("function", "--more", "0.4%", "--inclusive"), [(5, 500, "main"), (5, 500, get), (8, 60, "late")])
+    rows = json.loads(ask("jumps", "--event", "Ir", "--group", "main", "--lines", "--json").out)
+    tried.expect("lines", [it["calls"] for it in rows], [[f"called by {APP}:main: +500, +5 calls", "at a.c:30: +500"], ["at l.c:4: +60"]])
     # Runs without the event are passed over: one that stands between two others is as if it were not there.
     tried.expect("runs without the event", found("function", "--more", "2%"), [(5, 500, get), (8, 60, "late")])
 
@@ -240,6 +243,8 @@ def cases_of_refusals(tried, ask):
             ("several fit", ("trend", "--event", "Ir", "function", "i"), f"5 functions fit i; give more of the name, or a whole line:{fits}\n".encode()),
             ("an empty name", ("trend", "--event", "Ir", "function", ""), b"no function fits"),
             ("inclusive objects", ("trend", "--event", "Ir", "object", "x", "--inclusive"), b"--inclusive is for functions"),
+            ("lines of objects", ("jumps", "--event", "Ir", "object", "--lines"), b"--lines is for functions"),
+            ("an inclusive file", ("jumps", "--event", "Ir", "file", "--inclusive"), b"--inclusive is for functions"),
             ("an inclusive total", ("trend", "--event", "Ir", "--inclusive"), b"--inclusive is for functions"),
             ("none of the runs", ("trend", "--event", "Ir", "--runs", "8..3"), b"there are no such runs"),
             ("a group without runs", ("trend", "--event", "Ir", "--group", "bare"), b"there are no such runs"),

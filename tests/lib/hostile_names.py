@@ -107,7 +107,7 @@ class Stored:
             done = self.ran("profhouse_history", *words, form)
             names = [cut(it) for it in wanted] if form == "--markdown" else wanted
             found += [*self.each(f"profhouse_history {form}", names, readers[form](done.out.decode()), done), hidden_wrong(f"profhouse_history {form}", done.out, "\n")]
-        for more in (("grew", "1", "2"), ("jumps",), ("trend", "--top", "300")):
+        for more in (("grew", "1", "2"), ("jumps", "--lines"), ("trend", "--top", "300")):
             done = self.ran("profhouse_history", more[0], "--db", "s.db", "--event", "Ir", *more[1:])
             found += [hidden_wrong(f"profhouse_history {more[0]}", done.out, "\n"), None if done.status == 0 else f"profhouse_history {more}: {done}"]
         for name, it in zip(self.names[::20], self.shown[::20]):
