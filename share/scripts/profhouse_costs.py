@@ -87,9 +87,11 @@ def said_of(query):
 
 def added(rows):
     """The costs by their keys. Names that are printed alike, as `a:b:c` of object `a` or `a:b`, are one."""
-    costs = {}
-    for cost, key in rows:
-        costs[key] = costs.get(key, 0) + cost
+    costs = {key: cost for cost, key in rows}
+    if len(costs) < len(rows):
+        costs = dict.fromkeys(costs, 0)
+        for cost, key in rows:
+            costs[key] += cost
     return costs
 
 
@@ -137,7 +139,7 @@ class Matched:
     """The costs of runs by names as they are compared, and the names that stand behind each in each run."""
 
     def __init__(self, server, event, key, how):
-        self.key, self.how, self.names, self.behind = key, how, {}, {}
+        self.key, self.how, self.names, self.together = key, how, {}, {}
         self.functions = Functions(server, event) if key == "function" else None
 
     def take(self, number, of, costs):
@@ -145,13 +147,20 @@ class Matched:
         if self.functions:
             self.functions.take(of, costs.rows)
         names = self.functions.names if self.functions else names_of(costs.rows)
+        if self.how == "path":
+            self.names = names if self.functions else {**self.names, **names}
+            return costs
         rows = {}
         for key, cost in costs.rows.items():
             it = matched(names[key], self.key, self.how)
             self.names.setdefault(it.key, it)
-            self.behind.setdefault((number, it.key), []).append(names[key])
+            self.together.setdefault((number, it.key), []).append(names[key])
             rows[it.key] = rows.get(it.key, 0) + cost
         return Costs(costs.total, rows)
+
+    def behind(self, number, key):
+        """The names of a run that are this one as they are compared."""
+        return [self.names[key]] if self.how == "path" else self.together.get((number, key), [])
 
     def place(self, file):
         """A file as it is compared."""

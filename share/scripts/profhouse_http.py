@@ -45,6 +45,8 @@ RUN_LINE = re.compile(rb"(%s) (callgrind|folded) ([0-9a-f]{64}) ([^\x00-\x1f\x7f
 GROUP_LINE = re.compile(rb"([A-Za-z0-9._-]{1,64}) (-|%s) (-|%s(?:,%s)*)" % (NUMBER, NUMBER, NUMBER))
 SHARE_LINE = re.compile(rb"(%s) [0-9]{1,4000}\.[0-9]{2}%% (%s)" % (COST, NAME))
 COST_LINE = re.compile(rb"(%s) (%s)" % (COST, NAME))
+# The same as whole lines.
+LINES = {it: re.compile(rb"^%s\n" % it.pattern, re.M) for it in (SHARE_LINE, COST_LINE)}
 CALL_LINE = re.compile(rb"(%s) ([0-9]{1,4000}) (%s)" % (COST, NAME))
 # A line of `verify`: run, event, sum, what the file states, and whether that agrees.
 SUM_LINE = re.compile(rb"%s [^\x00-\x20\x7f]+ ([0-9]{1,4000}) (?:[0-9]{1,4000} (?:ok|differs)|none none)" % NUMBER)
@@ -291,7 +293,11 @@ def fields_of(text, form, skipped=0):
 
 def rows_of(report, form, head, event):
     """The total of a report, and the cost and the name of each row: its lines are of this form behind the head."""
-    rows = [(int(it[1]), it[2]) for it in fields_of(report, form, 1)]
+    start = report.find(b"\n") + 1
+    # (all lines in one step, as 200 runs of a program have half a million; the other way finds the line that is at fault)
+    rows = [(int(cost), name) for cost, name in LINES[form].findall(report, start)] if start else []
+    if len(rows) != report.count(b"\n", start) or not report.endswith(b"\n"):
+        rows = [(int(it[1]), it[2]) for it in fields_of(report, form, 1)]
     if report.partition(b"\n")[0] != f"{head} ".encode() + escaped(os.fsencode(event)) or not rows or rows[0][1] != b"total":
         raise Fault(f"the answer is no report `{head} {shown(event)}`")
     return rows[0][0], rows[1:]

@@ -240,7 +240,7 @@ class Line {
     const said = [element("span", { className: signOf(change) }, signed(change)), ` ${signedShare(change, this.series[from])} since ${runName(runs[from].number)}`];
     const others = this.view.names.filter(it => it !== this.name).map(it => packedName(it.object, it.name)).join(",");
     const close = this.name ? anchor(link({ names: others }), "×", { title: "take it away" }) : null;
-    return element("figure", null, element("figcaption", null, element("code", { title: this.name ? shown(this.name.object) : "" }, this.title), " ",
+    return element("figure", null, element("figcaption", null, element("code", { title: this.name ? `${this.title}\n${shown(this.name.object)}` : "" }, this.title), " ",
       element("span", { className: "small" }, grouped(this.series[newest]), ", ", said), close), this.svg, this.said);
   }
 }
