@@ -7,7 +7,7 @@ import os
 import re
 from collections import namedtuple
 
-from profhouse_http import CALL_LINE, SHARE_LINE, escaped, fields_of, plain, rows_of, said_by
+from profhouse_http import CALL_LINE, SHARE_LINE, SUM_LINE, escaped, fields_of, plain, rows_of, said_by
 from profhouse_names import Name, matched, names_of
 from profhouse_script import Fault, WordFault, shown
 
@@ -122,17 +122,28 @@ def costs_of(server, of, event, key, inclusive=False):
 
 class Functions:
     """The functions of reports by their keys. Both sides of OBJECT:FUNCTION may have colons, so the objects of a selection
-    are asked for where a key has more than one that was not seen before."""
+    are asked for where a key that was not seen before has more than one."""
 
     def __init__(self, server, event):
         self.server, self.event, self.names, self.objects = server, event, {}, set()
 
     def take(self, of, keys):
         new = [it for it in keys if it not in self.names]
-        if any(it.count(b":") > 1 for it in new):
-            costs = self_costs(self.server, of, self.event, "object")
-            self.objects |= set(costs.rows) if costs else set()
+        several = [it for it in new if it.count(b":") > 1]
+        if several:
+            self.ask(of, self.event)
+        if not all(self.is_known(it) for it in several):
+            # (an object may cost nothing itself of one event, and then something of another)
+            for event in dict.fromkeys(it[0].split(b" ")[1] for it in fields_of(self.server.text("/verify", **of), SUM_LINE)):
+                self.ask(of, os.fsdecode(plain(event)))
         self.names.update(names_of(new, self.objects))
+
+    def ask(self, of, event):
+        costs = self_costs(self.server, of, event, "object")
+        self.objects |= set(costs.rows) if costs else set()
+
+    def is_known(self, key):
+        return any(key.startswith(it + b":") for it in self.objects)
 
 
 class Matched:
@@ -199,6 +210,8 @@ def calls_in(stacks, which, key):
     and once for the function, as it does in `inclusive`."""
     total, sums, side = 0, {}, -1 if which == "callers" else 1
     for frames, count in stacks:
+        if count == 0:
+            continue
         places = [at for at, it in enumerate(frames) if it == key]
         total += count if places else 0
         for it in {frames[at + side] if 0 <= at + side < len(frames) else None for at in places}:

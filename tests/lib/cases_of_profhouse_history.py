@@ -284,6 +284,20 @@ def cases_of_names(tried):
     tried.expect("names like columns", json.loads(ran.out), [{"run": 1, "label": "names.cg", "costs": {"/b:c/x:run": 10, "/b:c/x:label": 11}}])
 
 
+def cases_of_objects(tried):
+    """An object with a colon that costs nothing itself of the event, and the stacks that nobody saw."""
+    tried.write("objects.cg", "events: Ir Dr\nob=/a:b/x\nfn=out\n1 0 4\ncob=/c\ncfn=in\ncalls=2 1\n1 9 0\nob=/c\nfn=in\n1 9 0\n")
+    tried.write("zeros.folded", "a;b 0\nc;b 3\n")
+    tried.profhouse("import", "--db", "objects.db", "objects.cg")
+    tried.profhouse("import", "--db", "objects.db", "--folded", "zeros.folded")
+    ran = tried.script(NAME, "grew", "--db", "objects.db", "--event", "Ir", "1", "1", "--inclusive", "--csv")
+    tried.expect("no difference", ran.out, b"change,change_percent,before,after,name\n")
+    ran = tried.script(NAME, "trend", "--db", "objects.db", "--event", "Ir", "--runs", "1..1", "--inclusive", "--match", "name", "--csv", "function", "out")
+    tried.expect("an object by another event", ran.out.decode().splitlines()[1:], ["1,9,,,0,+0.00,objects.cg"])
+    ran = tried.script(NAME, "callers", "--db", "objects.db", "--csv", "b")
+    tried.expect("a stack that was seen", ran.out.decode().splitlines()[1:], ["3,100.00,???:c"])
+
+
 def cases_of_folders(tried):
     """Builds in two folders: `work` costs 700 of 1000 more in the second, and is called five times more; the library has two
     objects of one name, and the function `same` of both."""
@@ -345,6 +359,7 @@ def cases(tried):
     tried.expect_help(NAME)
     make_store(tried)
     cases_of_names(tried)
+    cases_of_objects(tried)
     cases_of_folders(tried)
     tried.expect("a store", tried.script(NAME, "trend", "--db", "s.db", "--event", "Ir", "--group", "main").out, TOTAL_TEXT.encode())
     tried.expect_refusal("no store", tried.script(NAME, "jumps", "--db", "none.db", "--event", "Ir"), b"there is no store none.db")
