@@ -184,6 +184,8 @@ class Line {
   // Marks a point; with the mouse there is a hint.
   point(at, event) {
     this.at = at ?? undefined;
+    // (as long as the width is not known, there is nothing to mark)
+    if (!this.marker) return;
     this.marker.setAttribute("visibility", at === null ? "hidden" : "visible");
     hint(event ?? null, event ? this.told(at) : "");
     if (at === null) return;
