@@ -48,7 +48,7 @@ change              before    after  function
   +561    +0.55 %  100,581  101,142  total
   +500  +125.00 %      400      900  {APP}:{GET}
    +60                   0       60  {LIB}:late
-1 more differ, by +1 together
+1 difference more, by +1 together
 """
 GREW_MARKDOWN = f"""**`Ir by function, with all that they call: run 8 (8.cg), less run 4 (4.cg)`**
 
@@ -58,7 +58,7 @@ GREW_MARKDOWN = f"""**`Ir by function, with all that they call: run 8 (8.cg), le
 | +500 | +0.49 % | 100,400 | 100,900 | `{APP}:main` |
 | +500 | +125.00 % | 400 | 900 | `{APP}:{GET}` |
 
-`2 more differ`
+`2 differences more`
 """
 
 
@@ -194,7 +194,7 @@ def cases_of_jumps(tried, ask):
     tried.expect("as data", rows[0], {"run": 5, "change": 500, "change_percent": "+125.00", "before": 400, "cost": 900, "label": "5.cg",
                                       "name": f"{APP}:{GET}", "calls": [f"called by {APP}:main: +500, +5 calls"]})
     tried.expect("some rows", ask("jumps", "--event", "Ir", "--group", "main", "--rows", "1").out.decode().splitlines()[-2:],
-                 ["1 smaller jumps are not shown", "run 5 (5.cg)"])
+                 ["1 smaller jump not shown", "run 5 (5.cg)"])
     tried.expect("with all that they call", found("function", "--more", "0.4%", "--inclusive"), [(5, 500, "main"), (5, 500, get), (8, 60, "late")])
     rows = json.loads(ask("jumps", "--event", "Ir", "--group", "main", "--lines", "--json").out)
     tried.expect("lines", [it["calls"] for it in rows], [[f"called by {APP}:main: +500, +5 calls", "at a.c:30: +500"], ["at l.c:4: +60"]])
