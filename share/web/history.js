@@ -214,6 +214,8 @@ class Line {
     const of = this.name ? { fn: this.name.name, ob: PLACES[before === undefined ? "path" : this.view.match](this.name.object) } : { fn: undefined, ob: undefined };
     const gone = { group: undefined, all: undefined, sum: undefined, key: undefined, q: undefined, ...of };
     hint(null, "");
+    // (what makes the total jump is seen best where functions have all that they call)
+    if (!this.name) gone.calls = "1";
     go(before === undefined ? { ...gone, run, view: "function" } : { ...gone, run, less: "r" + this.view.runs[before].number, view: "difference" });
   }
 
