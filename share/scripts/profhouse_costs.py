@@ -70,7 +70,11 @@ def part(cost, whole):
 
 def answer_of(server, path, refusal, **query):
     """The answer to a question, or None where it is refused so."""
-    accepted, text = server.ask("GET", path, list(query.items()))
+    return accepted_of(server.ask("GET", path, list(query.items())), refusal, query)
+
+
+def accepted_of(answer, refusal, query):
+    accepted, text = answer
     if accepted or text == refusal:
         return text if accepted else None
     raise Fault(f"{said_of(query)}: {said_by(text)}")
@@ -95,29 +99,43 @@ def added(rows):
     return costs
 
 
-def self_costs(server, of, event, key):
-    """What runs cost by a key, or None where they have no such event. Without a key there are no rows."""
-    words = {"limit": "0"} if key is None else {}
-    text = answer_of(server, f"/reports/{key or 'object'}", NO_EVENT, **of, event=event, **words)
-    if text is None:
-        return None
-    total, rows = rows_of(text, SHARE_LINE, f"by {key or 'object'}", event)
+def question_of(of, event, key, inclusive=False):
+    """The path and the query of what runs cost by a key. Without a key the total alone is asked for."""
+    path = "/inclusive" if inclusive else f"/reports/{key or 'object'}"
+    return path, {**of, "event": event, **({} if key or inclusive else {"limit": "0"})}
+
+
+def costs_in(text, of, event, key, inclusive=False):
+    """The costs that an answer has. Self costs sum to the total, those with all that is called sum to nothing."""
+    total, rows = rows_of(text, SHARE_LINE, "inclusive" if inclusive else f"by {key or 'object'}", event)
+    if inclusive:
+        return Costs(total, added(rows))
     if not rows or rows[-1][1] != b"(rest)" or sum(cost for cost, _ in rows) != total or (key and rows[-1][0] != 0):
         raise Fault(f"{said_of(of)}: the rows of the answer do not sum to its total")
     return Costs(total, added(rows[:-1]))
 
 
-def inclusive_costs(server, of, event):
-    """What each function costs with all that it calls, or None. These costs sum to nothing."""
-    text = answer_of(server, "/inclusive", NO_EVENT, **of, event=event)
-    if text is None:
-        return None
-    total, rows = rows_of(text, SHARE_LINE, "inclusive", event)
-    return Costs(total, added(rows))
-
-
 def costs_of(server, of, event, key, inclusive=False):
-    return inclusive_costs(server, of, event) if inclusive else self_costs(server, of, event, key)
+    """What runs cost by a key, or None where they have no such event."""
+    path, query = question_of(of, event, key, inclusive)
+    text = answer_of(server, path, NO_EVENT, **query)
+    return None if text is None else costs_in(text, of, event, key, inclusive)
+
+
+def costs_of_each(server, numbers, event, key, inclusive=False):
+    """The same of each of these runs, by its number."""
+    questions = [question_of(of_run(it), event, key, inclusive) for it in numbers]
+    for number, (_, query), answer in zip(numbers, questions, server.answers(questions)):
+        text = accepted_of(answer, NO_EVENT, query)
+        yield number, None if text is None else costs_in(text, of_run(number), event, key, inclusive)
+
+
+def self_costs(server, of, event, key):
+    return costs_of(server, of, event, key)
+
+
+def inclusive_costs(server, of, event):
+    return costs_of(server, of, event, "function", True)
 
 
 class Functions:

@@ -18,6 +18,7 @@ import subprocess
 import sys
 import time
 from collections import namedtuple
+from concurrent.futures import ThreadPoolExecutor
 from urllib.parse import quote, unquote, urlsplit
 
 from profhouse_script import Fault, WordFault, reason_of, shown
@@ -120,6 +121,8 @@ class Server:
 
     def __init__(self, address, wait=30, timeout=600):
         self.wait, self.timeout = wait, timeout
+        # The program and the store, where this is the server of a store here.
+        self.here = None
         try:
             self.parts = urlsplit(address)
             sound = self.parts.port != -1 and self.parts.hostname and not self.parts.query and not self.parts.fragment
@@ -214,12 +217,37 @@ class Server:
             raise Fault(said_by(text))
         return text
 
+    def answers(self, questions):
+        """Yields the answers to questions for reports, as pairs of a path and a query: whether each was accepted, and its text.
+        Where the store is here, processes of the program answer them side by side: a server would do so one by one."""
+        if self.here is None:
+            yield from (self.ask("GET", path, list(query.items())) for path, query in questions)
+            return
+        with ThreadPoolExecutor(os.cpu_count() or 1) as pool:
+            waiting = [pool.submit(answer_here, *self.here, *it) for it in questions]
+            try:
+                for (path, query), it in zip(questions, waiting):
+                    # (what the words of a command line cannot say is asked of the server)
+                    yield it.result() or self.ask("GET", path, list(query.items()))
+            finally:
+                for it in waiting:
+                    it.cancel()
+
     def runs(self):
         """The runs that it lists, in the order of their numbers."""
         runs = [Run(int(it[1]), it[2].decode(), it[3].decode(), it[4]) for it in fields_of(self.text("/runs"), RUN_LINE)]
         if any(one.number >= other.number for one, other in zip(runs, runs[1:])):
             raise Fault("the answer is no list of runs")
         return runs
+
+
+def answer_here(program, store, path, query):
+    """The answer of the program itself to a question for a report, or None where it gives none."""
+    command, _, key = path[1:].partition("/")
+    words = [program, "by" if key else command, f"--db={store}", *(f"--{name}={value}" for name, value in query.items()), *([key] if key else [])]
+    done = subprocess.run(words, stdin=subprocess.DEVNULL, stdout=subprocess.PIPE, stderr=subprocess.DEVNULL, check=False)
+    accepted = done.returncode == 0
+    return (accepted, done.stdout) if accepted or done.returncode == 1 and REFUSAL.fullmatch(done.stdout) else None
 
 
 def end_with_parent():
@@ -244,7 +272,9 @@ def served(path):
         if not port:
             why = "; a profhouse serve may have it open, then give --api" if said == "store: failed" else ""
             raise Fault(f"{shown(path)} cannot be opened: {said or 'no answer'}{why}")
-        yield Server(f"http://127.0.0.1:{port[1]}", wait=0)
+        server = Server(f"http://127.0.0.1:{port[1]}", wait=0)
+        server.here = program, path
+        yield server
     finally:
         child.terminate()
         child.wait()
