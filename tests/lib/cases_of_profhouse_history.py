@@ -295,6 +295,10 @@ def cases_of_objects(tried):
     ran = tried.script(NAME, "trend", "--db", "objects.db", "--event", "Ir", "--runs", "1..1", "--inclusive", "--match", "name", "--csv", "function", "out")
     tried.expect("an object by another event", ran.out.decode().splitlines()[1:], ["1,9,,,0,+0.00,objects.cg"])
     ran = tried.script(NAME, "callers", "--db", "objects.db", "--csv", "b")
+    # (a command line takes no such word, and a server does)
+    tried.profhouse("import", "--db", "bytes.db", tried.write("bytes.cg", b"events: \xe9v\nfn=f\n1 5\n"))
+    more = tried.script(NAME, "trend", "--db", "bytes.db", "--event", b"\xe9v", "--csv")
+    tried.expect("an event that is no UTF-8", more.out.splitlines()[1].rpartition(b",")[0], b"1,5,,,0,+0.00")
     tried.expect("a stack that was seen", ran.out.decode().splitlines()[1:], ["3,100.00,???:c"])
 
 
