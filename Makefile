@@ -14,11 +14,15 @@ FILES = 755:$(PROGRAM):bin/profhouse \
 	644:share/completions/_profhouse:share/zsh/site-functions/_profhouse \
 	644:share/completions/profhouse.fish:share/fish/vendor_completions.d/profhouse.fish \
 	644:share/scripts/profhouse_http.py:share/profhouse/profhouse_http.py \
+	644:share/scripts/profhouse_costs.py:share/profhouse/profhouse_costs.py \
+	644:share/scripts/profhouse_names.py:share/profhouse/profhouse_names.py \
 	644:share/scripts/profhouse_script.py:share/profhouse/profhouse_script.py \
+	644:share/scripts/profhouse_tables.py:share/profhouse/profhouse_tables.py \
 	755:share/scripts/backup_store:share/profhouse/backup_store \
 	755:share/scripts/fail_if_costlier:share/profhouse/fail_if_costlier \
 	755:share/scripts/markdown_difference:share/profhouse/markdown_difference \
 	755:share/scripts/postgres_load:share/profhouse/postgres_load \
+	755:share/scripts/profhouse_history:share/profhouse/profhouse_history \
 	755:share/scripts/profhouse_remote:share/profhouse/profhouse_remote \
 	755:share/scripts/profhouse_web:share/profhouse/profhouse_web \
 	755:share/scripts/same_paths:share/profhouse/same_paths \

@@ -5,6 +5,8 @@
 //   zero=1 where it was found by a call that costs nothing
 //   less=r1 or gNAME  key=  calls=1 with all that is called  match=  sum=1 many runs less one     of a difference
 //   zoom= frames joined by ;     file= and line= of a source
+//   names= functions joined by , as OBJECT:FUNCTION, each percent-encoded  every=1 all runs  floor=1 lines from 0  calls=  match=
+//   of a history
 
 import { percent, unpercent } from "./texts.js";
 

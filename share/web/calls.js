@@ -3,6 +3,7 @@
 import { go, link } from "./address.js";
 import { anchor, changeCell, costCell, element, functionCell, greatest, leading, nameCell, note, rowsBody, sum, table, widen } from "./drawing.js";
 import { lessOf, matchOf, PLACES } from "./difference.js";
+import { toHistory } from "./history.js";
 import { calls, csv, events, functionOf, inclusive, members, nameOf, objects, runs as allRuns, selfCosts,
   where } from "./store.js";
 import { grouped, part, share, shown, signed, signOf, size } from "./texts.js";
@@ -127,6 +128,7 @@ export async function panel(s, runs, event) {
   if (!places.flat().length) return [...head, note(`This function costs nothing in ${sides.map(nameOf).join(" and ")}.`)];
   const [now, before] = await Promise.all(sides.map((it, at) => side(s, it, event, places[at], known)));
   return [...head, element("div", { className: "cards" }, card("self", now, before, "own"), card("with all that it calls", now, before, "all")),
+    element("div", { className: "small" }, anchor(link(toHistory([...new Set(places.flat())].at(0), s.fn)), "its history", { id: "its-history", title: "its history ( h )" })),
     ...inStacks(s, runs), ...linesButton(s, runs, event, places[0], less), ...callTable("Called by", event, now.callers, before?.callers),
     ...callTable("Calls", event, now.callees, before?.callees)];
 }

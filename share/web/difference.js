@@ -73,12 +73,12 @@ function twins(rows, byFunction) {
   return null;
 }
 
-const SAID = { path: "the whole path", last: "the last part of the path", name: "only the function's name" };
+export const SAID = { path: "the whole path", last: "the last part of the path", name: "only the function's name" };
 
-function matchChoice(s, byFunction) {
+export function matchChoice(s, byFunction, match = matchOf(s)) {
   const choices = byFunction ? ["path", "last", "name"] : ["path", "last"];
   return element("label", null, "compare ", element("select", { id: "match", onchange: event => go({ match: event.target.value, fn: undefined, ob: undefined }) },
-    choices.map(it => element("option", { value: it, selected: it === matchOf(s) }, SAID[it]))));
+    choices.map(it => element("option", { value: it, selected: it === match }, SAID[it]))));
 }
 
 function bar(s, key, sides) {

@@ -5,6 +5,7 @@ import { panel } from "./calls.js";
 import { differenceView, lessOf } from "./difference.js";
 import { $, anchor, element, fault, mark, note, widen } from "./drawing.js";
 import { flame } from "./flame.js";
+import { historyView, toHistory } from "./history.js";
 import { report, verified } from "./reports.js";
 import { pick, source } from "./source.js";
 import { baselineOf, chosen, events, groups, load, nameOf, Refusal, runs } from "./store.js";
@@ -21,6 +22,7 @@ const VIEWS = {
   flame: ["Flame graph", flame],
   source: ["Source", (s, of, event) => source(s, of, event, () => show(true))],
   verify: ["Verify", verified],
+  history: ["History", historyView],
 };
 const WITH_LESS = ["difference", "flame"];
 const WITH_PANEL = ["function", "inclusive", "file", "object", "line", "thread", "difference"];
@@ -86,7 +88,7 @@ function drawHead(s, view, of) {
     it.ariaCurrent = name === view ? "page" : null;
   });
   $("less-label").hidden = !WITH_LESS.includes(view);
-  $("filter-place").hidden = view === "source";
+  $("filter-place").hidden = view === "source" || view === "history";
   $("filter").placeholder = view === "flame" ? "search  ( / )" : "filter  ( / )";
   if (document.activeElement !== $("filter")) $("filter").value = shown(s.q ?? "");
   const baseline = baselineOf(of), options = [["", baseline ? `baseline: run ${baseline.run}` : "nothing"],
@@ -188,7 +190,7 @@ async function begin() {
 
 // The keys.
 
-const KEYS = [["1 to 9, 0", "a view"], ["/", "the filter; Esc leaves it"], ["↑ ↓ Home End", "from row to row"], ["Enter", "open the row"],
+const KEYS = [["1 to 9, 0", "a view"], ["h", "the history, of the function that is looked at or has the keyboard"], ["/", "the filter; Esc leaves it"], ["↑ ↓ Home End", "from row to row"], ["Enter", "open the row"],
   ["↑ ↓ ← →", "in a flame graph: from frame to frame"], ["Esc", "close the function, or the zoom"], ["Alt ←", "back"], ["?", "these keys"]];
 
 function help() {
@@ -212,6 +214,13 @@ function escaped(s) {
   else if (s.q) go({ q: undefined });
 }
 
+// The history of the function of the row or frame that has the keyboard, or of the panel; else that of the total.
+function openHistory(row, frame) {
+  const s = state(), of = row?.change?.fn !== undefined ? row.change : s.fn !== undefined ? s : null;
+  if (frame?.node?.above) return go(toHistory("???", frame.node.name || "???"));
+  return go(of ? toHistory(of.ob ?? "", of.fn) : { view: "history", q: undefined });
+}
+
 function pressed(event) {
   if (event.ctrlKey || event.altKey || event.metaKey || $("help").open) return;
   if (event.target.matches("input, select")) {
@@ -220,11 +229,12 @@ function pressed(event) {
   }
   const view = Object.keys(VIEWS)[[..."1234567890"].indexOf(event.key)], row = event.target.closest?.("tr.leads");
   if (view) go({ view, q: undefined });
+  else if (event.key === "h") openHistory(row, event.target.closest?.(".frame"));
   else if (event.key === "/") $("filter").focus();
   else if (event.key === "?") help();
   else if (event.key === "Escape") escaped(state());
   else if (event.key === "Enter" && row) go(row.change);
-  else if (!["ArrowDown", "ArrowUp", "Home", "End"].includes(event.key) || event.target.closest?.("#flame") || !moveRow(event.key)) return;
+  else if (!["ArrowDown", "ArrowUp", "Home", "End"].includes(event.key) || event.target.closest?.("#flame, #history") || !moveRow(event.key)) return;
   event.preventDefault();
 }
 
@@ -253,7 +263,8 @@ function filter() {
   }, 150);
 }
 
-$("views").append(...Object.values(VIEWS).map(([text], at) => anchor("#", text, { title: `${text} ( ${at + 1} )` })));
+const KEY_OF = [..."1234567890h"];
+$("views").append(...Object.values(VIEWS).map(([text], at) => anchor("#", text, { title: `${text} ( ${KEY_OF[at]} )` })));
 $("event").onchange = chooseEvent;
 $("less").onchange = () => go({ less: $("less").value });
 $("filter").oninput = filter;

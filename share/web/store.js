@@ -78,6 +78,9 @@ const readVerify = text => linesOf(text).map(line => {
   return { run, event: unescaped(event), sum, stated, word };
 });
 
+// The keys of a report, the longest first.
+export const keysOf = text => readReport(text).rows.map(row => row.key).sort((a, b) => b.length - a.length);
+
 export const selfCosts = (key, runs, event) => once("reports/" + key, { event, ...runs }, readReport);
 export const inclusive = (runs, event) => once("inclusive", { event, ...runs }, readInclusive);
 export const verify = runs => once("verify", runs, readVerify);

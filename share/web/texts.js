@@ -52,6 +52,10 @@ export const unescaped = printed => printed.includes("\\")
   ? printed.replace(/\\(\\|x[0-9a-f]{2})/g, (_, it) => it === "\\" ? it : String.fromCharCode(parseInt(it.slice(1), 16)))
   : printed;
 
+// A name as a report prints it.
+export const escaped = name => name.replace(/[\0-\x1f\x7f\\]/g,
+  it => it === "\\" ? "\\\\" : "\\x" + it.charCodeAt(0).toString(16).padStart(2, "0"));
+
 export const percent = name => name.replace(/[^A-Za-z0-9_.~-]/g,
   it => "%" + it.charCodeAt(0).toString(16).padStart(2, "0"));
 
@@ -91,9 +95,8 @@ export const many = (count, word) => `${marked(String(count))} ${word}${String(c
 // Names of operators have the signs that are brackets elsewhere.
 const WHOLE = /^(?:operator\s*(?:\(\)|\[\]|->\*?|<=>|<<=?|>>=?|[-+*\/%^&|~!=<>]=?)|\(anonymous namespace\))/;
 
-// A long name without what stands in its brackets, as std::map<…>::operator[](…).
-export function brief(name) {
-  if (name.length < 48) return name;
+// A name without what stands in its brackets. Where `put` is empty, the brackets are left out too.
+export function without(name, put) {
   let text = "", depth = 0;
   for (let at = 0; at < name.length; at++) {
     const whole = (name[at] === "o" || name[at] === "(") && WHOLE.exec(name.slice(at, at + 24));
@@ -101,10 +104,13 @@ export function brief(name) {
     // A name of Rust may begin with the type in brackets.
     const opens = !whole && (it === "(" || it === "<") && at > 0;
     const closes = !whole && depth > 0 && (it === ")" || it === ">") && name[at - 1] !== "-";
-    if (closes && --depth === 0) text += "…";
-    if (depth === 0) text += it;
+    if (closes && --depth === 0) text += put;
+    if (depth === 0 && (put || !opens && !closes)) text += it;
     if (opens) depth++;
     at += it.length - 1;
   }
   return depth ? name : text;
 }
+
+// A long name in short, as std::map<…>::operator[](…).
+export const brief = name => name.length < 48 ? name : without(name, "…");

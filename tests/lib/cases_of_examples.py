@@ -6,14 +6,15 @@ import shutil
 from tried import SCRIPTS, TOP
 
 EXAMPLES = os.path.join(TOP, "share", "examples")
-# Builds ./bench of the file `source`, which holds what the program costs; `broken` cannot be built.
+# Builds ./bench of the file `source`, which holds what the program costs, and what its `main` does; `broken` cannot be built.
 MAKE = "#!/bin/sh\n! grep -q broken source && cp source bench\n"
 # Writes a profile of ./bench, with paths of the folder that it was built in.
 VALGRIND = r"""#!/bin/bash
 [[ -z ${HOME-} ]] || exit 9
 for word; do [[ $word == --callgrind-out-file=* ]] && out=${word#*=}; done
-printf 'pid: %s\nevents: Ir\nob=%s\nfl=%s\nfn=main\n1 100\nfn=work\n2 %s\n' \
-    "$$" "$PWD/bench" "$PWD/a.c" "$(cat bench)" > "$out"
+read -r work main < bench
+printf 'pid: %s\nevents: Ir\nob=%s\nfl=%s\nfn=main\n1 %s\nfn=work\n2 %s\n' \
+    "$$" "$PWD/bench" "$PWD/a.c" "${main:-100}" "$work" > "$out"
 """
 
 
@@ -64,6 +65,10 @@ def cases_of_ci(tried, address, kind, steps, environment):
     tried.expect(f"{kind}: above", (ran.status, b"and the limit is 2% of 1000" in ran.err), (1, True))
     shown = tried.read("github.above.md" if kind == "github" else "gitlab.above/difference.md").decode()
     tried.expect(f"{kind}: the table", "| +21 | +2.10 % | `work` | `bench` |" in shown, True)
+    tried.expect(f"{kind}: the last runs", re.search(r"`bench` \| `▁.*█`( \*\*jump\*\*)? \|\n", shown) is not None, True)
+    ran = run("each", "900 106", GITHUB_REF_NAME="pull", CI_COMMIT_BRANCH="pull", CI_COMMIT_REF_SLUG="pull")
+    tried.expect(f"{kind}: a function above", (ran.status, ran.err.splitlines()[-1:]), (
+        1, [b"/src/bench:main costs 6 more than 100 in run 1, and the limit for each is 5%"]))
     tried.expect(f"{kind}: no program", run("broken", "broken").status != 0, True)
     ran = run("other", 900, GITHUB_REF_NAME="my/branch", CI_COMMIT_BRANCH="my/branch", CI_COMMIT_REF_SLUG="my-branch")
     tried.expect(f"{kind}: another branch", ran.status, 0)
@@ -82,9 +87,10 @@ def cases_of_both(tried):
         tried.expect("the group of github", groups, b"main 1 2,3\n")
         groups = cases_of_ci(tried, address, "gitlab", steps_of_gitlab(), {
             "CI_COMMIT_BRANCH": "main", "CI_COMMIT_REF_SLUG": "main", "CI_COMMIT_SHA": "0a1b"})
-        tried.expect("the group of gitlab", groups, b"main 1 2,3,5,6\n")
+        tried.expect("the group of gitlab", groups, b"main 1 2,3,6,7\n")
         labels = [line.split(b" ", 3)[3] for line in tried.script("profhouse_remote", "runs", PROFHOUSE_API=address).out.splitlines()]
-        tried.expect("the labels", labels[1:], [b"main 0a1b", b"main 0a1b", b"my/branch 0a1b", b"main 0a1b", b"main 0a1b", b"my-branch 0a1b"])
+        tried.expect("the labels", labels[1:], [
+            b"main 0a1b", b"main 0a1b", b"pull 0a1b", b"my/branch 0a1b", b"main 0a1b", b"main 0a1b", b"pull 0a1b", b"my-branch 0a1b"])
 
 
 def cases_of_bisection(tried):

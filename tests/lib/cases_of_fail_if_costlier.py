@@ -92,6 +92,44 @@ def cases_of_refusals(tried, where):
         tried.expect_refusal(f"{where[0]}: {what}", tried.script(NAME, *where, *words), has)
 
 
+# What functions cost in runs 1 to 5: run 1 is the baseline, and 1 to 4 are in the group. One goes up and down, one is new,
+# one had grown before, and one is tiny.
+EACH = {"same": (100000,) * 5, "grown": (200, 200, 200, 200, 211), "swings": (300, 340, 300, 340, 335), "new": (0, 0, 0, 0, 60),
+        "before": (400, 400, 500, 500, 520), "tiny": (1, 1, 1, 1, 9)}
+
+
+def cases_of_each(tried):
+    """5 percent of 200 are 10, and 0.05 percent of the baseline's 100901 are 50.4; so 60 are enough, and 11 are not."""
+    for number, costs in enumerate(zip(*EACH.values()), 1):
+        rows = "".join(f"ob=/opt/{name}\nfl={'a' if name == 'same' else 'b'}.c\nfn={name}\n1 {cost}\n" for name, cost in zip(EACH, costs))
+        tried.profhouse("import", "--db", "each.db", tried.write(f"each{number}.cg", f"events: Ir\n{rows}"))
+    tried.profhouse("group", "--db", "each.db", "main")
+    for number in ("1", "2", "3", "4"):
+        tried.profhouse("join", "--db", "each.db", "main", number)
+    tried.profhouse("baseline", "--db", "each.db", "main", "1")
+
+    def said(*words):
+        ran = tried.script(NAME, "each.db", "main", "5", "Ir", "1%", *words)
+        return ran.status, ran.err.decode().split("\n")[:-1]
+    new = "/opt/new:new costs 60 more than 0 in run 1, and the limit for each is "
+    tried.expect("each function", said("--each", "5%"), (1, [new + "5%"]))
+    tried.expect("without --each", said(), (0, []))
+    # 0.0109 percent of 100901 are 10.998, and 0.011 are 11.1.
+    grown = "/opt/grown:grown costs 11 more than 200 in run 1, and the limit for each is "
+    tried.expect("a smaller limit", said("--each", "1.09%"), (1, [f"/opt/before:before costs 120 more than 400 in run 1, and the limit for each is 1.09%",
+                                                                 new + "1.09%", grown + "1.09%"]))
+    tried.expect("one that had grown is none by more", said("--each", "4%"), (1, [new + "4%"]))
+    tried.expect("each object", said("--each", "5%", "--key", "object"), (1, ["/opt/new costs 60 more than 0 in run 1, and the limit for each is 5%"]))
+    # The file b.c costs 901, 941, 1001, 1041 and 1135: more than 9 percent above 1041, and 234 more than the baseline.
+    tried.expect("each file", said("--each", "9%", "--key", "file"), (1, ["b.c costs 234 more than 901 in run 1, and the limit for each is 9%"]))
+    tried.expect("a file within", said("--each", "9.1%", "--key", "file"), (0, []))
+    ran = tried.script(NAME, "each.db", "main", "5", "Ir", "0.1%", "--each", "5%")
+    tried.expect("both limits", (ran.status, ran.err.decode().split("\n")[:-1]), (1, ["run 5 costs 234 more than run 1, and the limit is 0.1% of 100901", new + "5%"]))
+    for word in ("5", "x%", "-1%", "%", ""):
+        tried.expect_refusal(f"--each {word!r}", tried.script(NAME, "each.db", "main", "5", "Ir", "1%", f"--each={word}"), b"--each is")
+    tried.expect_refusal("another key", tried.script(NAME, "each.db", "main", "5", "Ir", "1%", "--each=5%", "--key=line"), b"invalid choice")
+
+
 def cases_of_stores(tried):
     words = ("main", "2", "Ir", "1")
     held = sorted(os.listdir(tried.folder))
@@ -221,6 +259,7 @@ def cases(tried):
     cases_of_texts(tried, ("--db", "s.db"))
     cases_of_refusals(tried, ("--db", "s.db"))
     cases_of_stores(tried)
+    cases_of_each(tried)
     cases_of_great_numbers(tried)
     with tried.serving("s.db") as address:
         cases_of_limits(tried, ("--api", address))

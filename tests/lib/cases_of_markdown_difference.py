@@ -51,7 +51,39 @@ def cases_of_texts(tried, *where):
         tried.expect_refusal(f"{where[0]}: {what}", ask(*words), has)
 
 
+# What functions cost in each run of a group, whose baseline is the first: one steps up in the newest run, one goes up and down.
+SERIES = {"step": (100, 100, 102, 200), "swings": (50, 90, 50, 90), "falls": (800, 600, 300, 0)}
+TREND = """**`Ir`: -660 (-69.47 %)**, run 4 (`run4.cg`) less run 1 (`run1.cg`)
+
+| cost | of all before | function | object | last 4 runs |
+|--:|--:|---|---|---|
+| -800 | -84.21 % | `falls` | `app` | `█▆▃▁` **jump** |
+| +100 | +10.52 % | `step` | `app` | `▁▁▁█` **jump** |
+| +40 | +4.21 % | `swings` | `app` | `▁█▁█` |
+
+The total in the last 4 runs: `█▆▂▁`, from 290 to 950.
+"""
+
+
+def cases_of_trends(tried):
+    """The column of the last runs. Of 7 levels 600 of 800 are the 5th, and 300 the 2nd; of 950, 790, 452 and 290 the middle
+    ones are the 5th (500 * 7 / 660) and the 1st (162 * 7 / 660)."""
+    for number, costs in enumerate(zip(*SERIES.values()), 1):
+        rows = "".join(f"ob=/opt/app\nfn={name}\n1 {cost}\n" for name, cost in zip(SERIES, costs))
+        tried.profhouse("import", "--db", "trend.db", tried.write(f"run{number}.cg", f"events: Ir\n{rows}") and f"run{number}.cg")
+    tried.profhouse("group", "--db", "trend.db", "main")
+    for number in ("1", "2", "3"):
+        tried.profhouse("join", "--db", "trend.db", "main", number)
+    tried.profhouse("baseline", "--db", "trend.db", "main", "1")
+    ran = tried.script(NAME, "--db", "trend.db", "4", "main", "Ir")
+    tried.expect("a column of the last runs", ran.out.decode(), TREND)
+    rows = tried.script(NAME, "--db", "trend.db", "4", "1", "Ir").out.decode().splitlines()
+    tried.expect("none without a group", (rows[2], rows[-1]), ("| cost | of all before | function | object |", "| +40 | +4.21 % | `swings` | `app` |"))
+    tried.expect("none for two runs", tried.script(NAME, "--db", "trend.db", "2", "main", "Ir").out.decode().splitlines()[2], "| cost | of all before | function | object |")
+
+
 def cases(tried):
+    cases_of_trends(tried)
     tried.expect_help(NAME)
     make_store(tried)
     cases_of_texts(tried, "--db", "s.db")

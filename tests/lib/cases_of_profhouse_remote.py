@@ -100,6 +100,12 @@ def cases_of_names(tried, address):
     tried.expect("a name that is no UTF-8", ask("callers", "--event", "Ir", b"\xe9").out, (
         b"callers Ir " + ODD_OBJECT + b":\xe9\n1 1 total\n1 1 " + ODD_OBJECT + b":t\\x09ab\\\\x\n"))
     tried.expect_refusal("two objects", ask("callers", "--event", "Ir", "twice"), b"\n  /lib/a.so\n  /lib/b:c.so\n")
+    tried.expect("a part of a name", ask("callers", "--event", "Ir", "DEE"), (
+        0, b"callers Ir /lib/a.so:deep\n8 6 total\n8 6 /lib/b:c.so:once\n", b""))
+    tried.expect("the end of a name, without what stands in brackets", ask("callees", "--event", "Ir", "operator<<").out.splitlines()[0],
+                 b"callees Ir " + ODD_OBJECT + b":operator<<(std::ostream&, char)")
+    tried.expect_refusal("a part of two names", ask("callees", "--event", "Ir", "onc"),
+                         b"2 functions fit onc; give more of the name, or a whole line:\n  /lib/b:c.so:X::once\n  /lib/b:c.so:once\n")
     tried.expect("a function that is not there", ask("callers", "--event", "Ir", "nobody"), (1, b"refused: no such name\n", b""))
     tried.expect("an event that is not there", ask("callers", "--event", "ir", "deep"), (1, b"refused: no such event\n", b""))
     # The runs are 1 to 6; the last has 5 samples, and the one before it costs 3 + 4 + 5 + 9 + 8.

@@ -62,8 +62,10 @@ def quoted(text):
 SOUND = [
     ("GET /runs", "{S:1} {S:callgrind} {S:%s} {N:one}\n{S:2} {S:folded} {S:%s} {N:two}\n" % (SHA, SHA[::-1])),
     ("GET /groups", "{S:main} {S:1} {S:1},{S:2}\nother {S:-} {S:-}\n"),
-    ("GET /reports/object?run=1&", "{S:by} {S:object} {S:Ir}\n{S:1000} {S:100.00%} {S:total}\n{S:600} {S:60.00%} {N:/opt/app}\n400 40.00% /lib/x\n"),
-    ("GET /reports/object?run=2&", "{S:by} object {S:Ir}\n{S:1020} {S:100.00%} {S:total}\n{S:620} 60.78% {N:/opt/app}\n400 39.21% /lib/x\n"),
+    ("GET /reports/object?run=1&", "{S:by} {S:object} {S:Ir}\n{S:1000} {S:100.00%} {S:total}\n{S:600} {S:60.00%} {N:/opt/app}\n400 40.00% /lib/x\n0 0.00% (rest)\n"),
+    ("GET /reports/object?run=2&", "{S:by} object {S:Ir}\n{S:1020} {S:100.00%} {S:total}\n{S:620} 60.78% {N:/opt/app}\n400 39.21% /lib/x\n0 0.00% (rest)\n"),
+    ("GET /reports/function?run=1&", "{S:by} {S:function} {S:Ir}\n{S:1000} {S:100.00%} {S:total}\n{S:600} {S:60.00%} {N:/opt/app:f}\n400 40.00% /lib/x:g\n{S:0} 0.00% (rest)\n"),
+    ("GET /reports/function?run=2&", "by function Ir\n{S:1020} 100.00% total\n{S:1000} 98.03% {N:/opt/app:f}\n20 1.96% /lib/x:g\n0 0.00% {S:(rest)}\n"),
     ("GET /reports/", "by object {N:Ir}\n{S:1000} {S:100.00%} {N:total}\n1000 100.00% {N:/opt/app}\n"),
     ("GET /subtract/", "subtract function Ir\n{S:20} total\n{S:30} {N:/opt/app:f}\n{S:-10} {N:/lib/x:g}\n"),
     ("GET /verify", "{S:1} Ir {S:1000} {S:1000} {S:ok}\n"),
@@ -153,6 +155,7 @@ def of_lines(chance, asked, text, *_):
 
 # Numbers that are such, and do not fit: what is put in place of what.
 LIES = {"GET /subtract/": [(b"20 total", b"21 total"), (b"-10 ", b"-11 "), (b"30 ", b"1 /lib/x:h\n30 ")],
+        "GET /reports/function?run=2&": [(b"1020 ", b"1021 "), (b"\n20 ", b"\n19 "), (b"\n0 ", b"\n1 "), (b"by function Ir", b"by function Dr"), (b"(rest)", b"rest")],
         "GET /runs": [(b"\n2 ", b"\n1 "), (b"1 callgrind", b"3 callgrind")]}
 
 

@@ -31,12 +31,20 @@ printf "%s\0" "$@" > "$CASE/words$n"
 exit 0
 """
 REPORTS = ("GET /reports/object?run=1&", "GET /reports/object?run=2&", "GET /subtract/")
+FUNCTIONS = ("GET /reports/function?run=1&", "GET /reports/function?run=2&")
 EXPORTS = ("GET /csv", "GET /folded", "POST /annotate")
 # The words of each script, its status for a fault, what it asks, and which answers may have any bytes.
 SCRIPTS = {
-    "fail_if_costlier": [(("main", "2", "Ir", "5%"), 2, ("GET /groups", *REPORTS), ())],
+    "fail_if_costlier": [(("main", "2", "Ir", "5%"), 2, ("GET /groups", *REPORTS), ()),
+                         (("main", "2", "Ir", "5%", "--each=99999%"), 2, ("GET /groups", *FUNCTIONS), ())],
     "markdown_difference": [(("2", "main", "Ir"), 2, ("GET /runs", "GET /groups", *REPORTS), ())],
     "postgres_load": [((STORE,), 2, ("GET /runs", "GET /csv", "psql"), ())],
+    "profhouse_history": [
+        (("trend", "--event", "Ir", "--top", "2", "--group", "main"), 2, ("GET /runs", "GET /groups", *FUNCTIONS), ()),
+        (("jumps", "--event", "Ir", "--around", "1", "object"), 2, ("GET /runs", *REPORTS[:2]), ()),
+        (("grew", "--event", "Ir", "1", "2"), 2, ("GET /runs", *FUNCTIONS), ()),
+        (("grew", "--event", "Ir", "main@baseline", "2", "object"), 2, ("GET /groups", *REPORTS[:2]), ()),
+        (("callers", "--event", "Ir", "--run", "1", "f"), 2, ("GET /runs",), ())],
     "profhouse_remote": [(words, 1, (asked,), EXPORTS) for words, asked in (
         (("runs",), "GET /runs"), (("groups",), "GET /groups"), (("verify",), "GET /verify"), (("csv",), "GET /csv"), (("folded",), "GET /folded"),
         (("by", "--event", "Ir", "object"), "GET /reports/"), (("inclusive", "--event", "Ir"), "GET /inclusive"),
@@ -186,6 +194,8 @@ def outcome(case, done):
         return "it prints another answer"
     if pipe and done.status and done.out and not re.fullmatch(rb"refused: [^\x00-\x1f\x7f]+\n", done.out):
         return "it prints an answer that it refuses"
+    if case.script == "profhouse_history" and case.answer.wanted == "shown" and case.answer.asked in (*FUNCTIONS, *REPORTS):
+        return None if visible(case.answer.word[1]) in done.out.decode() else "the name is not shown"
     if case.script == "fail_if_costlier" and case.answer.wanted == "shown" and case.answer.asked == "GET /subtract/":
         return None if visible(case.answer.word[1]) in done.out.decode() else "the name is not shown"
     return table_wrong(done.out.decode()) if case.script == "markdown_difference" and done.status == 0 else None

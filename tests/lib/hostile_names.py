@@ -1,5 +1,8 @@
 """Hostile names in a store, and as words of a command line, through each script that prints: what tests/hostile_words
 tries then."""
+import csv
+import io
+import json
 import os
 import random
 import re
@@ -78,10 +81,10 @@ class Stored:
         return self.each("fail_if_costlier", wanted, set(done.out.decode().split("\n")), done) + [hidden_wrong("fail_if_costlier", done.out, "\n")]
 
     def of_a_table(self, done):
-        rows = [re.findall(r"\|((?:\\[!-/:-@\[-`{-~]|[^|])*)", it)[:-1] for it in done.out.decode().split("\n") if it.startswith("| +")]
-        cells = {tuple(content_of(it) for it in row[2:]) if len(row) == 4 else None for row in rows}
+        rows = [cells(it) for it in done.out.decode().split("\n") if it.startswith("| +")]
+        found = {tuple(content_of(it) for it in row[2:]) if len(row) == 4 else None for row in rows}
         wanted = [(cut(it), cut(as_shown(name.rpartition(b"/")[2]))) for it, name in zip(self.shown, self.names)]
-        return self.each("markdown_difference", wanted, cells, done) + [hidden_wrong("markdown_difference", done.out, "\n")]
+        return self.each("markdown_difference", wanted, found, done) + [hidden_wrong("markdown_difference", done.out, "\n")]
 
     def of_a_terminal(self, address):
         words = ("by", "--api", address, "--event", "Ir", "--run", "1", "function")
@@ -93,6 +96,25 @@ class Stored:
                 None if plain.out == said else "profhouse_remote: a file gets other bytes than the server says",
                 *(hidden_wrong(f"profhouse_remote {it}", self.ran("profhouse_remote", it, "--api", address, terminal=True).out, "\n\t")
                   for it in ("runs", "csv"))]
+
+    def of_history(self):
+        """Each name in each form: run 2 costs twice what run 1 does."""
+        wanted, found = [f"{it}:{it}" for it in self.shown], []
+        words = ("grew", "--db", "s.db", "--event", "Ir", "1", "2", "--rows", "1000")
+        readers = {"--json": lambda out: {it["name"] for it in json.loads(out)}, "--csv": lambda out: {it[-1] for it in csv.reader(io.StringIO(out))},
+                   "--markdown": lambda out: {content_of(cells(it)[-1]) for it in out.split("\n")[4:-1]}}
+        for form in ("--json", "--csv", "--markdown"):
+            done = self.ran("profhouse_history", *words, form)
+            names = [cut(it) for it in wanted] if form == "--markdown" else wanted
+            found += [*self.each(f"profhouse_history {form}", names, readers[form](done.out.decode()), done), hidden_wrong(f"profhouse_history {form}", done.out, "\n")]
+        for more in (("grew", "1", "2"), ("jumps", "--lines"), ("trend", "--top", "300")):
+            done = self.ran("profhouse_history", more[0], "--db", "s.db", "--event", "Ir", *more[1:])
+            found += [hidden_wrong(f"profhouse_history {more[0]}", done.out, "\n"), None if done.status == 0 else f"profhouse_history {more}: {done}"]
+        for name, it in zip(self.names[::20], self.shown[::20]):
+            done = self.ran("profhouse_history", "trend", "--db", "s.db", "--event", "Ir", "--runs=1..1", "--json", "function", "--", f"{it}:{it}")
+            cost = [row["cost"] for row in json.loads(done.out)] if done.status == 0 else done
+            found.append(None if cost == [100 + self.names.index(name)] else f"profhouse_history trend {it!r}: {cost}")
+        return found
 
     def of_psql(self, done):
         fields = {field for _, rows, _ in noted(self.tried.folder) for row in rows for field in row}
@@ -112,6 +134,7 @@ class Stored:
         found = [*self.of_costs(self.ran("fail_if_costlier", "s.db", "main", "2", "Ir", "1000%")),
                  *self.of_a_table(self.ran("markdown_difference", "--db", "s.db", "2", "main", "Ir", "--rows", "1000")),
                  *self.of_psql(self.ran("postgres_load", "--db", "s.db", STORE)), *self.of_callgrind(self.ran("to_callgrind", "--db", "s.db", "1"))]
+        found += self.of_history()
         with self.tried.serving("s.db") as address:
             found += self.of_a_terminal(address)
         made = {it for it in os.listdir(self.tried.folder) if not re.fullmatch(r"(?:psql|words)[123]|again\.cg|(?:s|again)\.db(?:-wal|-shm)?", it)}
@@ -125,6 +148,11 @@ def hidden_wrong(what, text, kept):
 
 def cut(text):
     return text if len(text) <= LONGEST else text[:LONGEST] + "…"
+
+
+def cells(row):
+    """The cells of a row of a table."""
+    return re.findall(r"\|((?:\\[!-/:-@\[-`{-~]|[^|])*)", row)[:-1]
 
 
 def content_of(cell):
@@ -146,6 +174,12 @@ WORDS = {
     "markdown_difference": [(("--api=A", "W", "1", "Ir"), (2,)), (("--api=A", "2", "W", "Ir"), (2,)), (("--api=A", "2", "main", "W"), (2,)),
                             (("--api=W", "2", "main", "Ir"), (2,))],
     "postgres_load": [(("--api=A", "W"), (0,)), (("--db=W", "main"), (2,))],
+    "profhouse_history": [(("trend", "--api=A", "--event=W"), (2,)), (("trend", "--api=A", "--event=Ir", "function", "W"), (2,)),
+                          (("trend", "--api=A", "--event=Ir", "--group=W"), (2,)), (("trend", "--api=A", "--event=Ir", "--runs=W"), (2,)),
+                          (("jumps", "--api=A", "--event=Ir", "--more=W"), (2,)), (("jumps", "--api=A", "--event=Ir", "W"), (2,)),
+                          (("grew", "--api=A", "--event=Ir", "1", "W"), (2,)), (("grew", "--api=A", "--event=Ir", "W", "2", "file"), (2,)),
+                          (("callers", "--api=A", "--event=Ir", "--run=1", "W"), (2,)), (("callees", "--api=A", "--run=W", "f"), (2,)),
+                          (("W", "--api=A"), (2,)), (("jumps", "--event=Ir", "--api=W"), (2,)), (("trend", "--event=Ir", "--db=W"), (2,))],
     "profhouse_remote": [(("by", "--api=A", "--event=Ir", "W"), (2,)), (("callers", "--api=A", "--event=W", "--object=W", "W"), (0,)),
                          (("callers", "--api=A", "--event=Ir", "W"), (0, 1)), (("group", "--api=A", "W"), (0,)), (("import", "--api=A", "W"), (0, 1)),
                          (("join", "--api=A", "main", "W"), (2,)), (("W", "--api=A"), (2,)), (("runs", "--api=W"), (2,))],
