@@ -47,7 +47,7 @@ TABLES = {
     "cost": ("month load event object file function line thread cost", "load, event, object, file, function, line, thread", True),
     "by_function": ("month load event object function self called", "event, function, object, load", True),
     "call": ("month load event object file function line called_object called_file called_function n", "load, event, called_function, function", True),
-    "stack": ("month load frames n", "load", True),
+    "stack": ("month load frames n", "load", True), "dropped": ("load", "load", False),
 }
 REPLACING = ("name", "store", "listed")
 EXACT = "sum(toDecimal128({}, 0))"
@@ -329,6 +329,20 @@ class ClickHouse:
                 time.sleep(random.uniform(0.5, 1.5) * (number + 1))
         raise Fault(f"the list of runs cannot be written now: {why}")
 
+    def drop_before(self, month):
+        """Drops the rows of all months before one; their runs stay known, and count no more."""
+        for shard in range(1, self.count + 1):
+            node = self.node_for(shard)
+            loads = [it for it, in node.ask(self.text("SELECT load FROM {load} WHERE month < " + f"{month:06d}", local=True), "Q")]
+            gone = {it for it, in node.ask(self.text("SELECT load FROM {dropped}", local=True), "Q")}
+            new = [it for it in loads if it not in gone]
+            if new:
+                self.insert(node, "dropped", [[new]])
+            for table in (it for it, (_, _, monthly) in TABLES.items() if monthly):
+                parts = node.ask(self.text(f"SELECT DISTINCT month FROM {{{table}}} WHERE month < {month:06d}", local=True), "I")
+                for its, in parts:
+                    node.send(self.text(f"ALTER TABLE {{{table}}} DROP PARTITION {its:06d}", local=True), b"")
+
     # What is asked.
 
     def states(self):
@@ -359,7 +373,9 @@ class ClickHouse:
         for digest, *rest in self.ask("SELECT digest, load, kind, at, month, call_count FROM {load} WHERE digest IN (SELECT x FROM d)", "FQBqIq",
                                       d=("F", sorted({row[3] for row in rows}))):
             found[digest] = min(found.get(digest, rest), rest)
-        return [(store.decode("ascii"), run, label, digest, *found[digest]) for store, _, run, digest, label in rows if digest in found]
+        dropped = {it for it, in self.ask("SELECT load FROM {dropped} WHERE load IN (SELECT x FROM l)", "Q", l=("Q", [it[0] for it in found.values()]))}
+        return [(store.decode("ascii"), run, label, digest, *found[digest]) for store, _, run, digest, label in rows
+                if digest in found and found[digest][0] not in dropped]
 
     def events(self, loads, name):
         """The runs that have an event, and how often each of theirs counts in it: load, event, factor, and its three sums; of a
@@ -460,7 +476,8 @@ class Try:
         self.engine, self.runs = engine, runs
         self.node = engine.node_for(shard)
         self.names = Names(engine, self.node, runs[0].store, engine.sent[shard])
-        self.loads = {it: random.SystemRandom().randrange(1, 1 << 64) for it in runs}
+        # (the time stands in front, so that rows of tries that came to nothing are known by their age)
+        self.loads = {it: int(time.time()) << 32 | random.SystemRandom().randrange(1 << 32) for it in runs}
         self.events = {it: [self.names.code(event.name) for event in it.events] for it in runs}
         for run in runs:
             run.sums = Sums()

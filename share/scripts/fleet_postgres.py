@@ -265,6 +265,19 @@ class Postgres:
         self.link.run("COMMIT")
         return bool(made)
 
+    def drop_before(self, month):
+        """Drops the rows of all months before one; their runs stay known, and count no more."""
+        self.link.run("BEGIN")
+        self.link.run(LOCK)
+        months = [int(it) for it, in self.link.run("SELECT DISTINCT month FROM profhouse.load WHERE month < $1 AND NOT dropped", integer(month))]
+        for table in ("event", "derived", "coef"):
+            self.link.run(f"DELETE FROM profhouse.{table} AS t USING profhouse.load AS d WHERE t.load = d.load AND d.month < $1", integer(month))
+        self.link.run("UPDATE profhouse.load SET dropped = true WHERE month < $1", integer(month))
+        for its in months:
+            for table in BY_MONTH:
+                self.link.run(f"DROP TABLE IF EXISTS profhouse.{table}_{its:06d}")
+        self.link.run("COMMIT")
+
     # What is asked.
 
     def begin(self):
