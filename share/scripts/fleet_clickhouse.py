@@ -26,6 +26,8 @@ TRIES = 8
 SECONDS = 600
 QUORUM_SECONDS = 20
 LONGEST_ANSWER = 1 << 31
+# So many seconds a connection is kept between two queries.
+IDLE = 1
 # So many bytes of names are sent at a time, and so many runs or rows are loaded in one try.
 NAMES = 1 << 22
 RUNS_AT_A_TIME, ROWS_AT_A_TIME = 50, 1 << 20
@@ -93,7 +95,7 @@ class Node:
 
     def __init__(self, scheme, host, port, pair):
         self.kind = http.client.HTTPSConnection if scheme == "https" else http.client.HTTPConnection
-        self.host, self.port, self.link = host, port, None
+        self.host, self.port, self.link, self.used = host, port, None, 0
         self.fields = {"Authorization": "Basic " + base64.b64encode(pair.encode()).decode()} if pair else {}
         self.shown = shown(f"{scheme}://{host}:{port}")
 
@@ -105,6 +107,9 @@ class Node:
     def send(self, query, body, fields=(), **more):
         """The answer to a query; one that is refused is a fault, and a node that is not there is Gone."""
         target = "/?" + urlencode({"query": query, **more})
+        # (a node closes a connection that nobody uses)
+        if time.monotonic() - self.used > IDLE or not isinstance(body, bytes):
+            self.close()
         try:
             if self.link is None:
                 self.link = self.kind(self.host, self.port, timeout=SECONDS)
@@ -114,12 +119,17 @@ class Node:
                               encode_chunked=chunked)
             answer = self.link.getresponse()
             data = answer.read(LONGEST_ANSWER)
+            self.used = time.monotonic()
         except ssl.SSLError as error:
             self.close()
             raise Fault(f"no connection to {self.shown}: {reason_of(error)}") from error
         except (OSError, http.client.HTTPException) as error:
             self.close()
             raise Gone(f"{self.shown}: {reason_of(error)}") from error
+        except BaseException:
+            # (rows that could not be read: what was sent of them is no load)
+            self.close()
+            raise
         if answer.status != 200:
             self.close()
             said = shown(data[:2000].strip())
@@ -333,15 +343,15 @@ class ClickHouse:
         """Drops the rows of all months before one; their runs stay known, and count no more."""
         for shard in range(1, self.count + 1):
             node = self.node_for(shard)
-            loads = [it for it, in node.ask(self.text("SELECT load FROM {load} WHERE month < " + f"{month:06d}", local=True), "Q")]
+            loads = node.ask(self.text("SELECT load, month FROM {load}", local=True), "QI")
             gone = {it for it, in node.ask(self.text("SELECT load FROM {dropped}", local=True), "Q")}
-            new = [it for it in loads if it not in gone]
+            new = [it for it, its in loads if its < month and it not in gone]
             if new:
                 self.insert(node, "dropped", [[new]])
             for table in (it for it, (_, _, monthly) in TABLES.items() if monthly):
-                parts = node.ask(self.text(f"SELECT DISTINCT month FROM {{{table}}} WHERE month < {month:06d}", local=True), "I")
-                for its, in parts:
-                    node.send(self.text(f"ALTER TABLE {{{table}}} DROP PARTITION {its:06d}", local=True), b"")
+                for its, in node.ask(self.text(f"SELECT DISTINCT month FROM {{{table}}}", local=True), "I"):
+                    if its < month:
+                        node.send(self.text(f"ALTER TABLE {{{table}}} DROP PARTITION {its:06d}", local=True), b"")
 
     # What is asked.
 

@@ -92,19 +92,19 @@ class Run:
         """The self costs: object, file, function, line, thread, event, cost."""
         sums = self.sums.costs
         for piece in self.pieces("costs", COSTS):
-            for *_, event, cost in piece:
-                sums[event] += cost
+            for row in piece:
+                sums[row[5]] += row[6]
             yield piece
 
     def calls(self):
         """The calls: caller with its line, callee, and the count (part 0) or the cost in an event (part 1 and so on)."""
         sums = self.sums
         for piece in self.pieces("calls", CALLS):
-            for *_, part, n in piece:
-                if part:
-                    sums.calls[part - 1] += n
+            for row in piece:
+                if row[7]:
+                    sums.calls[row[7] - 1] += row[8]
                 else:
-                    sums.call_count += n
+                    sums.call_count += row[8]
             yield piece
 
     def stacks(self):

@@ -150,7 +150,7 @@ class Compared:
             done = self.asked("by", "--store", "odd", "--store", "odd_too", "--store", "huge", "--event", event, "function")
             rows = [it.split(b" ", 2) for it in done.out.split(b"\n")[2:-2]]
             self.lines += len(rows)
-            self.tried.expect(f"sums past 64 bits of {event}", ({it[2]: int(it[0]) for it in rows}, max(sums.values()) > 2 ** 63), (sums, True))
+            self.tried.expect(f"sums past 64 bits of {event}", ({it[2]: int(it[0]) for it in rows}, sum(sums.values()) > 2 ** 63), (sums, True))
 
 
 def shown(name):
