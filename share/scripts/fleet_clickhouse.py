@@ -31,8 +31,8 @@ IDLE = 1
 # So many bytes of names are sent at a time, and so many runs or rows are loaded in one try.
 NAMES = 1 << 22
 RUNS_AT_A_TIME, ROWS_AT_A_TIME = 50, 1 << 20
-# Errors after which a load is tried again: of a quorum, of two that write at once, of a table that is being started.
-AGAIN = re.compile(r"Code: (?:242|285|286|289|319|999|225|164\b.*(?:quorum|ZooKeeper))|Quorum|quorum|ZooKeeper|KEEPER|readonly mode", re.S)
+# Errors after which a load is tried again: a table that is being started, too many parts, those of a quorum, and of ZooKeeper.
+AGAIN = re.compile(r"Code: (?:225|242|252|285|286|289|319|999)\b")
 CLUSTER = "profhouse"
 
 NUMBERS = {"month": "UInt32", "load": "UInt64", "event": "UInt64", "line": "UInt64", "thread": "UInt64", "cost": "Int64", "self": "Int64",
