@@ -52,6 +52,9 @@ TABLES = {
     "stack": ("month load frames n", "load", True), "dropped": ("load", "load", False),
 }
 REPLACING = ("name", "store", "listed")
+# A row of `by_function` of each run and event, of no function, which stands among the others of its INSERT under another number of
+# the event: where it is, they are, since ClickHouse has or loses them together. So a trend need not sum up all functions.
+MARK = 1 << 63
 EXACT = "sum(toDecimal128({}, 0))"
 OF_RUNS = " WHERE event IN (SELECT x FROM e) AND load IN (SELECT x FROM l) AND month IN (SELECT x FROM m) GROUP BY "
 SUMS = {
@@ -65,7 +68,7 @@ CALLS = "SELECT " + FOUND + " AS its, if(its, {0}, toUInt64(0)) AS one, if(its, 
 BACK = {
     "costs": "SELECT load, event, sum(toDecimal128(cost, 0)), count() FROM {cost} WHERE load IN (SELECT x FROM l) GROUP BY load, event",
     "functions": "SELECT load, event, sum(toDecimal128(self, 0)), sum(toDecimal128(called, 0)), count() FROM {by_function}"
-                 " WHERE load IN (SELECT x FROM l) GROUP BY load, event",
+                 " WHERE load IN (SELECT x FROM l) AND event IN (SELECT x FROM e) GROUP BY load, event",
     "calls": "SELECT load, event, sum(toDecimal128(n, 0)), count() FROM {call} WHERE load IN (SELECT x FROM l) GROUP BY load, event",
     "stacks": "SELECT load, sum(toDecimal128(n, 0)), count() FROM {stack} WHERE load IN (SELECT x FROM l) GROUP BY load",
 }
@@ -412,14 +415,19 @@ class ClickHouse:
 
     def sums(self, key, weights, months):
         """The sums by a key: the key's parts, a factor, and the sum of all that counts by this factor."""
-        if key in ("inclusive", "total"):
-            keys = "object, function" if key == "inclusive" else "event"
-            query = f"SELECT {keys}, {EXACT.format('self')}, {EXACT.format('called')} FROM {{by_function}}{OF_RUNS}{keys}"
-            rows = self.each(weights, query, "QQDD" if key == "inclusive" else "QDD", months)
-            return [(*(row[:-2] if key == "inclusive" else ()), factor, *row[-2:]) for factor, row in rows]
+        if key == "inclusive":
+            query = f"SELECT object, function, {EXACT.format('self')}, {EXACT.format('called')} FROM {{by_function}}{OF_RUNS}object, function"
+            return [(*row[:2], factor, *row[2:]) for factor, row in self.each(weights, query, "QQDD", months)]
         table, keys, cost = SUMS[key]
         query = f"SELECT {keys}, {EXACT.format(cost)} FROM {{{table}}}{OF_RUNS}{keys}"
         return [(*row[:-1], factor, row[-1]) for factor, row in self.each(weights, query, "Q" * (keys.count(",") + 1) + "D", months)]
+
+    def whole(self, weights, months):
+        """Refuses to answer where the sums by function of a run are not there."""
+        wanted = [(load, event ^ MARK, 1) for load, event, _ in weights]
+        query = "SELECT load, event FROM {by_function}" + OF_RUNS + "load, event"
+        if len(list(self.each(wanted, query, "QQ", months))) != len(set(wanted)):
+            raise Fault("sums by function are missing: a node is behind, or has lost a part")
 
     def trend(self, weights, months, object_, function):
         """What a function costs in each run: load, factor, sum."""
@@ -529,6 +537,9 @@ class Try:
                 object_, function, event, own, called = zip(*piece)
                 self.names.know({*object_, *function})
                 yield [[load] * len(piece), [events[it] for it in event], [of[it] for it in object_], [of[it] for it in function], own, called]
+            if events:
+                none = [0] * len(events)
+                yield [[load] * len(events), [it ^ MARK for it in events], none, none, none, none]
 
     def calls(self):
         of = self.names.of
@@ -576,13 +587,13 @@ class Try:
         found, runs = {it: Sums() for it in self.runs}, {load: run for run, load in self.loads.items()}
         places = {run: {it: at for at, it in enumerate(events)} for run, events in self.events.items()}
 
-        def asked(what, form):
-            for load, *row in self.node.ask(self.engine.text(BACK[what], local=True), form, l=("Q", list(self.loads.values()))):
+        def asked(what, form, **more):
+            for load, *row in self.node.ask(self.engine.text(BACK[what], local=True), form, l=("Q", list(self.loads.values())), **more):
                 yield (found[runs[load]], places[runs[load]], *row)
         for sums, place, event, cost, count in asked("costs", "QQDQ"):
             sums.costs[place.get(event)] = cost
             sums.rows["costs"] += count
-        for sums, place, event, own, called, count in asked("functions", "QQDDQ"):
+        for sums, place, event, own, called, count in asked("functions", "QQDDQ", e=("Q", sorted({it for its in self.events.values() for it in its}))):
             sums.own[place.get(event)], sums.called[place.get(event)] = own, called
             sums.rows["functions"] += count
         for sums, place, event, n, count in asked("calls", "QQDQ"):

@@ -66,7 +66,6 @@ SUMS = {
     "line": "SELECT s.file, s.line, w.n, sum(s.cost) FROM profhouse.cost AS s" + WEIGHTS + " GROUP BY 1, 2, 3",
     "thread": "SELECT s.thread, w.n, sum(s.cost) FROM profhouse.cost AS s" + WEIGHTS + " GROUP BY 1, 2",
     "run": "SELECT s.load, s.object, s.function, w.n, sum(s.self) FROM profhouse.by_function AS s" + WEIGHTS + " GROUP BY 1, 2, 3, 4",
-    "total": "SELECT w.n, sum(s.self), sum(s.called) FROM profhouse.by_function AS s" + WEIGHTS + " GROUP BY 1",
     "inclusive": "SELECT s.object, s.function, w.n, sum(s.self), sum(s.called) FROM profhouse.by_function AS s" + WEIGHTS + " GROUP BY 1, 2, 3",
 }
 TREND = "SELECT s.load, w.n, sum(s.self) FROM profhouse.by_function AS s" + WEIGHTS + " AND s.function = $6 AND s.object = $5 GROUP BY 1, 2"
@@ -312,6 +311,9 @@ class Postgres:
         """The sums by a key: the key's parts, a factor, and the sum of all that counts by this factor."""
         loads, events, factors, months = self.weighted(weights, months)
         return [tuple(map(int, row)) for row in self.link.run(SUMS[key], loads, events, factors, months)]
+
+    def whole(self, weights, months):
+        """(a load is one transaction, so that its sums by function are all there)"""
 
     def trend(self, weights, months, object_, function):
         """What a function costs in each run: load, factor, sum."""

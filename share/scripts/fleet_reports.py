@@ -264,7 +264,7 @@ def trend(fleet, runs, event, object_, function):
     ids = [fleet.engine.number(it) for it in (object_, function)]
     if None in ids or not fleet.engine.has(chosen.loads, chosen.months, *ids):
         raise Fault("no such name")
-    proved(sum(factor * own for factor, own, _ in fleet.engine.sums("total", chosen.weights(), chosen.months)), chosen.stated())
+    fleet.engine.whole(chosen.weights(), chosen.months)
     costs = added(fleet.engine.trend(chosen.weights(), chosen.months, *ids))
     rows = [([b"%d" % costs[it.load,], it.store.encode(), b"%d" % it.number, utc(it.at), label_of(it)], ())
             for it in sorted(runs, key=lambda it: (it.at, it.store, it.number)) if it.load in chosen.having]

@@ -59,7 +59,9 @@ def cases_of_blocks(tried):
                      + numbers("event", "UInt64", ir, dr, 0) + numbers("n", "Int64", 1, 2, 0))
         rows = sorted((it["event"], it["function"], it["line"], it["cost"]) for it in node.tables["cost"])
         tried.expect("the costs", rows, sorted([(ir, f, 7, 5), (ir, f, 8, 3), (ir, g, 1, 40), (dr, f, 7, 1), (dr, g, 1, 4)]))
-        rows = sorted((it["event"], it["function"], it["self"], it["called"]) for it in node.tables["by_function"])
+        marks = [it for it in node.tables["by_function"] if it["function"] == 0]
+        tried.expect("a row of no function for each event", sorted(it["event"] for it in marks), sorted(it ^ 1 << 63 for it in (ir, dr)))
+        rows = sorted((it["event"], it["function"], it["self"], it["called"]) for it in node.tables["by_function"] if it not in marks)
         tried.expect("the sums by function", rows, sorted([(ir, f, 8, 40), (ir, g, 40, 0), (dr, f, 1, 4), (dr, g, 4, 0)]))
         heads = {it[2].get("Authorization") for it in node.asked}
         tried.expect("the password is in the head", heads, {"Basic bG9hZGVyOnBhc3M="})
@@ -129,7 +131,13 @@ def cases_of_faults(tried):
         tried.expect("one record", len(node.tables["load"]), 1)
         by = ("fleet_ask", "by", "--event", "Ir", "function", "--fleet", address)
         tried.expect("only what has the record counts", tried.script(*by).out.split(b"\n")[1], b"48 100.00% total")
-        lost = node.tables["by_function"].pop()
+        trend = ("fleet_ask", "trend", "--event", "Ir", "--object", "o", "f", "--fleet", address)
+        tried.expect("a trend", tried.script(*trend).out.split(b" ")[2:4], [b"o:f\n8", b"one"])
+        mark = next(it for it in node.tables["by_function"] if it["event"] == name(b"Ir") ^ 1 << 63)
+        node.tables["by_function"].remove(mark)
+        tried.expect_refusal("a trend of a lost part", tried.script(*trend), b"lost a part")
+        node.tables["by_function"].append(mark)
+        lost = node.tables["by_function"].pop(0)
         events = {it: tried.script("fleet_ask", "by", "--event", it, "function", "--fleet", address) for it in ("Ir", "Dr")}
         it = events["Ir" if lost["event"] == name(b"Ir") else "Dr"]
         tried.expect_refusal("a lost row", it, b"lost a part")
