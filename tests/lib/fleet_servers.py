@@ -106,7 +106,7 @@ class Cluster:
         scheme, pair = re.match(r"(https?)://([^@]*)@", self.address()).groups()
         asked = urllib.request.Request(f"{scheme}://127.0.0.1:{self.port + int(name[1:])}/", query.encode(),
                                        {"Authorization": "Basic " + base64.b64encode(pair.encode()).decode()})
-        with urllib.request.urlopen(asked, timeout=60) as answer:
+        with urllib.request.urlopen(asked, timeout=600) as answer:
             return answer.read()
 
     def settle(self):
