@@ -356,6 +356,20 @@ class ClickHouse:
                     if its < month:
                         node.send(self.text(f"ALTER TABLE {{{table}}} DROP PARTITION {its:06d}", local=True), b"")
 
+    def clean(self, hours):
+        """Deletes the rows of tries that came to nothing, and began so many hours ago."""
+        until = int(time.time() - 3600 * hours) << 32
+        for shard in range(1, self.count + 1):
+            node = self.node_for(shard)
+            held = {it for it, in node.ask(self.text("SELECT load FROM {load}", local=True), "Q")}
+            for table, (columns, _, _) in TABLES.items():
+                if table == "load" or "load" not in columns.split():
+                    continue
+                loads = node.ask(self.text(f"SELECT DISTINCT load FROM {{{table}}}", local=True), "Q")
+                old = sorted(it for it, in loads if it < until and it not in held)
+                for at in range(0, len(old), 1000):
+                    node.send(self.text(f"ALTER TABLE {{{table}}} DELETE WHERE load IN ({', '.join(map(str, old[at:at + 1000]))})", local=True), b"")
+
     # What is asked.
 
     def states(self):
@@ -386,9 +400,11 @@ class ClickHouse:
         for digest, *rest in self.ask("SELECT digest, load, kind, at, month, call_count FROM {load} WHERE digest IN (SELECT x FROM d)", "FQBqIq",
                                       d=("F", sorted({row[3] for row in rows}))):
             found[digest] = min(found.get(digest, rest), rest)
+        if len(found) != len({row[3] for row in rows}):
+            raise Fault("runs that a store lists are not there: a node is behind, or has lost a part")
         dropped = {it for it, in self.ask("SELECT load FROM {dropped} WHERE load IN (SELECT x FROM l)", "Q", l=("Q", [it[0] for it in found.values()]))}
         return [(store.decode("ascii"), run, label, digest, *found[digest]) for store, _, run, digest, label in rows
-                if digest in found and found[digest][0] not in dropped]
+                if found[digest][0] not in dropped]
 
     def events(self, loads, name):
         """The runs that have an event, and how often each of theirs counts in it: load, event, factor, and its three sums; of a

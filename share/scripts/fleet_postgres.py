@@ -277,6 +277,9 @@ class Postgres:
                 self.link.run(f"DROP TABLE IF EXISTS profhouse.{table}_{its:06d}")
         self.link.run("COMMIT")
 
+    def clean(self, hours):
+        """(a load that came to nothing leaves nothing)"""
+
     # What is asked.
 
     def begin(self):
