@@ -81,7 +81,7 @@ class Cluster:
         """Starts nodes, and waits until they answer."""
         self.nodes("start", self.folder, *names)
         for it in names or self.names:
-            until = time.monotonic() + 60
+            until = time.monotonic() + 240
             while it != "zk" and not self.answers(it):
                 if time.monotonic() > until:
                     raise AssertionError(f"node {it} does not answer")
