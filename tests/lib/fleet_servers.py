@@ -63,7 +63,7 @@ class Database:
 class Cluster:
     """A cluster of ClickHouse in a folder, made and started by fleet_nodes: SHARDSxREPLICAS."""
 
-    def __init__(self, folder, size="2x2", port=38120, *more):
+    def __init__(self, folder, size="2x2", port=22120, *more):
         self.folder, self.port = folder, port
         self.shards, self.replicas = map(int, size.split("x"))
         os.mkdir(folder)
