@@ -55,6 +55,24 @@ class Database:
     def settle(self):
         self.ask("VACUUM ANALYZE")
 
+    def processor(self):
+        """The seconds of the processor of all connections that have ended."""
+        with open(os.path.join(self.data, "postmaster.pid"), encoding="ascii") as file, open(f"/proc/{int(file.readline())}/stat", encoding="latin-1") as stat:
+            return sum(map(int, stat.read().rpartition(")")[2].split()[11:15])) / os.sysconf("SC_CLK_TCK")
+
+    def multiply(self, copies):
+        """Copies all runs, each copy under other numbers, digests and names of stores."""
+        top = int(self.ask("SELECT max(load) FROM profhouse.load"))
+        changes = {"load": "l.load + {0}, set_byte(digest, 31, {1}), kind, at, month, call_count, dropped", "event": "load + {0}, event, name, self_cost, call_cost, called",
+                   "cost": "line, thread, cost, load + {0}, month, object, file, function, event", "by_function": "self, called, load + {0}, month, object, function, event",
+                   "call": "line, n, load + {0}, month, object, file, function, called_object, called_file, called_function, part"}
+        for copy in range(1, copies):
+            for table, columns in changes.items():
+                more = "OVERRIDING SYSTEM VALUE " if table == "load" else ""
+                self.ask(f"INSERT INTO profhouse.{table} {more}SELECT {columns.format(copy * top, copy)} FROM profhouse.{table} AS l WHERE load <= {top}")
+            self.ask(f"INSERT INTO profhouse.listed SELECT store || '.{copy}', run, set_byte(digest, 31, {copy}), label FROM profhouse.listed WHERE store NOT LIKE '%.%'")
+            self.ask(f"INSERT INTO profhouse.store SELECT store || '.{copy}', version, groups FROM profhouse.store WHERE store NOT LIKE '%.%'")
+
     def bytes_of(self, table):
         """How many bytes a table has, with its indexes."""
         return int(self.ask(f"SELECT sum(pg_total_relation_size(inhrelid)) FROM pg_inherits WHERE inhparent = 'profhouse.{table}'::regclass"))
@@ -111,6 +129,31 @@ class Cluster:
 
     def settle(self):
         time.sleep(20)
+
+    def processor(self):
+        """The seconds of the processor of all nodes."""
+        return sum(self.of_process(it) for it in self.names)
+
+    def of_process(self, name):
+        with open(os.path.join(self.folder, name, "pid"), encoding="ascii") as file, open(f"/proc/{file.read().split()[0]}/stat", encoding="latin-1") as stat:
+            return sum(map(int, stat.read().rpartition(")")[2].split()[11:13])) / os.sysconf("SC_CLK_TCK")
+
+    def multiply(self, copies):
+        """Copies all runs of a cluster of one node, each copy under other numbers, digests and names of stores."""
+        digest = "toFixedString(concat(substring(digest, 1, 31), reinterpretAsString(toUInt8({0}))), 32)"
+        changes = {"load": digest + ", load + {0}, kind, at, month, call_count", "event": "load + {0}, event, self_cost, call_cost, called",
+                   "listed": "concat(store, '.{0}'), version, run, " + digest + ", label", "store": "concat(store, '.{0}'), version, count, sum, groups",
+                   "cost": "month, load + {0}, event, object, file, function, line, thread, cost",
+                   "by_function": "month, load + {0}, event, object, function, self, called",
+                   "call": "month, load + {0}, event, object, file, function, line, called_object, called_file, called_function, n"}
+        if copies > 1:
+            self.ask("n1", "CREATE TABLE profhouse.first (load UInt64) ENGINE = MergeTree ORDER BY load")
+            self.ask("n1", "INSERT INTO profhouse.first SELECT load FROM profhouse.load")
+        for copy in range(1, copies):
+            for table, columns in changes.items():
+                own = "store NOT LIKE '%.%'" if table in ("listed", "store") else "load IN (SELECT load FROM profhouse.first)"
+                self.ask("n1", f"INSERT INTO profhouse.{table} SELECT {columns.format(copy)} FROM profhouse.{table} WHERE {own}")
+            print(f"copy {copy}", flush=True)
 
     def bytes_of(self, table):
         """How many bytes a table has on one replica of each shard."""
