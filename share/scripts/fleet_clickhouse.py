@@ -77,11 +77,11 @@ HAS_CALL = "SELECT count() FROM {call} WHERE load IN (SELECT x FROM l) AND ((obj
     " OR (called_object IN (SELECT x FROM o) AND called_function IN (SELECT x FROM f)))"
 
 
-class Again(Exception):
+class Again(Fault):
     """A load that may be tried again."""
 
 
-class Gone(Exception):
+class Gone(Fault):
     """A node that does not answer."""
 
 
@@ -202,8 +202,6 @@ class ClickHouse:
                 # (the others are asked first from now on)
                 self.nodes.append(self.nodes.pop(self.nodes.index(node)))
                 why = error
-            except Again as error:
-                raise Fault(str(error)) from error
         raise Fault(f"no node answers: {why}")
 
     # The cluster and its tables.
@@ -247,10 +245,23 @@ class ClickHouse:
         for node in nodes:
             node.send(f"CREATE DATABASE IF NOT EXISTS {self.base}", b"")
             for table, (columns, order, monthly) in TABLES.items():
-                node.send(self.table(table, columns, order, monthly), b"")
+                self.made(node, self.table(table, columns, order, monthly))
         for node in nodes if self.front else []:
             for table in TABLES:
                 node.send(f"CREATE TABLE IF NOT EXISTS {self.base}.all_{table} AS {self.base}.{table} ENGINE = Distributed({CLUSTER}, {self.base}, {table})", b"")
+
+    @staticmethod
+    def made(node, statement):
+        """Makes a table, as soon as there is a ZooKeeper."""
+        until = time.monotonic() + QUORUM_SECONDS
+        while True:
+            try:
+                node.send(statement, b"")
+                return
+            except Again:
+                if time.monotonic() > until:
+                    raise
+                time.sleep(1)
 
     def table(self, table, columns, order, monthly):
         engine = "ReplacingMergeTree" if table in REPLACING else "MergeTree"
@@ -354,7 +365,15 @@ class ClickHouse:
             for table in (it for it, (_, _, monthly) in TABLES.items() if monthly):
                 for its, in node.ask(self.text(f"SELECT DISTINCT month FROM {{{table}}}", local=True), "I"):
                     if its < month:
-                        node.send(self.text(f"ALTER TABLE {{{table}}} DROP PARTITION {its:06d}", local=True), b"")
+                        self.leader(shard, table).send(self.text(f"ALTER TABLE {{{table}}} DROP PARTITION {its:06d}", local=True), b"")
+
+    def leader(self, shard, table):
+        """The node of a shard that drops parts of a table."""
+        for node in self.shards[shard] if self.replicas > 1 else []:
+            with contextlib.suppress(Gone):
+                if (self.base.encode(), table.encode()) in node.ask("SELECT database, table FROM system.replicas WHERE is_leader", "SS"):
+                    return node
+        return self.node_for(shard)
 
     def clean(self, hours):
         """Deletes the rows of tries that came to nothing, and began so many hours ago."""
