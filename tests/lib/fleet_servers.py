@@ -63,14 +63,14 @@ class Database:
     def multiply(self, copies):
         """Copies all runs, each copy under other numbers, digests and names of stores."""
         top = int(self.ask("SELECT max(load) FROM profhouse.load"))
-        changes = {"load": "l.load + {0}, set_byte(digest, 31, {1}), kind, at, month, call_count, dropped", "event": "load + {0}, event, name, self_cost, call_cost, called",
+        changes = {"load": "l.load + {0}, sha256(digest || '\\x{1:02x}'), kind, at, month, call_count, dropped", "event": "load + {0}, event, name, self_cost, call_cost, called",
                    "cost": "line, thread, cost, load + {0}, month, object, file, function, event", "by_function": "self, called, load + {0}, month, object, function, event",
                    "call": "line, n, load + {0}, month, object, file, function, called_object, called_file, called_function, part"}
         for copy in range(1, copies):
             for table, columns in changes.items():
                 more = "OVERRIDING SYSTEM VALUE " if table == "load" else ""
                 self.ask(f"INSERT INTO profhouse.{table} {more}SELECT {columns.format(copy * top, copy)} FROM profhouse.{table} AS l WHERE load <= {top}")
-            self.ask(f"INSERT INTO profhouse.listed SELECT store || '.{copy}', run, set_byte(digest, 31, {copy}), label FROM profhouse.listed WHERE store NOT LIKE '%.%'")
+            self.ask(f"INSERT INTO profhouse.listed SELECT store || '.{copy}', run, sha256(digest || '\\x{copy:02x}'), label FROM profhouse.listed WHERE store NOT LIKE '%.%'")
             self.ask(f"INSERT INTO profhouse.store SELECT store || '.{copy}', version, groups FROM profhouse.store WHERE store NOT LIKE '%.%'")
 
     def bytes_of(self, table):
@@ -140,7 +140,7 @@ class Cluster:
 
     def multiply(self, copies):
         """Copies all runs of a cluster of one node, each copy under other numbers, digests and names of stores."""
-        digest = "toFixedString(concat(substring(digest, 1, 31), reinterpretAsString(toUInt8({0}))), 32)"
+        digest = "toFixedString(concat(substring(digest, 1, 30), reinterpretAsString(toUInt16(43776 + {0}))), 32)"
         changes = {"load": digest + ", load + {0}, kind, at, month, call_count", "event": "load + {0}, event, self_cost, call_cost, called",
                    "listed": "concat(store, '.{0}'), version, run, " + digest + ", label", "store": "concat(store, '.{0}'), version, count, sum, groups",
                    "cost": "month, load + {0}, event, object, file, function, line, thread, cost",
