@@ -5,7 +5,8 @@ PREFIX = /usr/local
 DESTDIR =
 INTO = $(DESTDIR)$(PREFIX)
 PAGE = $(wildcard share/web/*)
-SCRIPTS = folded hostile http import reading reports rows run store total versions
+FLEET = clickhouse engines libpq native postgres reports store
+SCRIPTS = folded fleet hostile http import reading reports rows run store total versions
 
 # What is installed: the mode, the file here, and its place below PREFIX.
 FILES = 755:$(PROGRAM):bin/profhouse \
@@ -21,16 +22,17 @@ FILES = 755:$(PROGRAM):bin/profhouse \
 	755:share/scripts/backup_store:share/profhouse/backup_store \
 	755:share/scripts/fail_if_costlier:share/profhouse/fail_if_costlier \
 	755:share/scripts/markdown_difference:share/profhouse/markdown_difference \
-	755:share/scripts/postgres_load:share/profhouse/postgres_load \
 	755:share/scripts/profhouse_history:share/profhouse/profhouse_history \
+	755:share/scripts/fleet_ask:share/profhouse/fleet_ask \
+	755:share/scripts/fleet_load:share/profhouse/fleet_load \
+	755:share/scripts/fleet_nodes:share/profhouse/fleet_nodes \
+	$(foreach it,$(FLEET),644:share/scripts/fleet_$(it).py:share/profhouse/fleet_$(it).py) \
 	755:share/scripts/profhouse_remote:share/profhouse/profhouse_remote \
 	755:share/scripts/profhouse_web:share/profhouse/profhouse_web \
 	755:share/scripts/same_paths:share/profhouse/same_paths \
 	755:share/scripts/to_callgrind:share/profhouse/to_callgrind \
 	644:share/examples/github.yml:share/profhouse/examples/github.yml \
 	644:share/examples/gitlab.yml:share/profhouse/examples/gitlab.yml \
-	644:share/examples/postgres_schema.sql:share/profhouse/examples/postgres_schema.sql \
-	644:share/examples/postgres_trend.sql:share/profhouse/examples/postgres_trend.sql \
 	644:share/examples/profhouse-backup.service:share/profhouse/examples/profhouse-backup.service \
 	644:share/examples/profhouse-backup.timer:share/profhouse/examples/profhouse-backup.timer \
 	644:share/examples/profhouse.service:share/profhouse/examples/profhouse.service \

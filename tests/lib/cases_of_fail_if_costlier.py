@@ -156,7 +156,7 @@ def cases_of_stores(tried):
     tried.expect_refusal("a closed output", closed, b"the standard output is closed")
     os.mkdir(tried.path("without"))
     tried.write("without/ssl.py", "raise ImportError('no ssl of this Python', name='_ssl')\n")
-    for name in ("fail_if_costlier", "markdown_difference", "postgres_load", "profhouse_remote"):
+    for name in ("fail_if_costlier", "markdown_difference", "profhouse_remote"):
         ran = tried.script(name, "--help", PYTHONPATH=tried.path("without"))
         tried.expect(f"{name} without a module of Python", (ran.status, ran.err), (2, f"{name}: no ssl of this Python\n".encode()))
     os.mkdir(tried.path("alone"))

@@ -20,16 +20,6 @@ from tried import DISK
 from tried import SCRIPTS as SCRIPTS_AT
 
 COUNT = 200
-STORE = "it's; a \\store"
-# It notes what it is given, and answers what the file `held` has.
-PSQL = r"""#!/bin/sh
-n=1
-while [ -e "$CASE/psql$n" ]; do n=$((n+1)); done
-cat > "$CASE/psql$n"
-printf "%s\0" "$@" > "$CASE/words$n"
-[ $n = 1 ] && cat "$CASE/held"
-exit 0
-"""
 REPORTS = ("GET /reports/object?run=1&", "GET /reports/object?run=2&", "GET /subtract/")
 FUNCTIONS = ("GET /reports/function?run=1&", "GET /reports/function?run=2&")
 EXPORTS = ("GET /csv", "GET /folded", "POST /annotate")
@@ -38,7 +28,6 @@ SCRIPTS = {
     "fail_if_costlier": [(("main", "2", "Ir", "5%"), 2, ("GET /groups", *REPORTS), ()),
                          (("main", "2", "Ir", "5%", "--each=99999%"), 2, ("GET /groups", *FUNCTIONS), ())],
     "markdown_difference": [(("2", "main", "Ir"), 2, ("GET /runs", "GET /groups", *REPORTS), ())],
-    "postgres_load": [((STORE,), 2, ("GET /runs", "GET /csv", "psql"), ())],
     "profhouse_history": [
         (("trend", "--event", "Ir", "--top", "2", "--group", "main"), 2, ("GET /runs", "GET /groups", *FUNCTIONS), ()),
         (("jumps", "--event", "Ir", "--around", "1", "object"), 2, ("GET /runs", *REPORTS[:2]), ()),
@@ -58,10 +47,6 @@ SCRIPTS = {
 BASE = {script: at * COUNT for at, script in enumerate(SCRIPTS)}
 # The place of `csv --run last`, whose own answer is sound.
 LAST = len(SCRIPTS["profhouse_remote"]) - 1
-# What a database says of the runs that it has.
-HELD = [f"1 {'f' * 64}\n", "1\n", "x\n", f"1 {SHA[:-1]}g\n", f"1 {SHA}", "\x1b[2J\n", f"\uff11 {SHA}\n", f"1 {SHA} 2\n"]
-PSQL_WORDS = b"-X -A -t -q -v ON_ERROR_STOP=1".split()
-VALUES = {b"run": rb"[1-9][0-9]{0,9}", b"kind": rb"callgrind|folded", b"sha256": rb"[0-9a-f]{64}"}
 # The fields of a response of profhouse_web.
 FIELDS = set("""Server Date Content-Type Content-Length Content-Security-Policy Cross-Origin-Resource-Policy Referrer-Policy
 X-Content-Type-Options Cache-Control Allow Connection""".split())
@@ -76,17 +61,12 @@ class Case:
         self.script, self.number, self.name = script, number, f"{script} {number} of seed {seed}"
         self.words, self.fault, asked, exports = SCRIPTS[script][number % len(SCRIPTS[script])]
         self.terminal = script == "profhouse_remote" and number % 3 == 0
-        self.of_psql = "psql" in asked and number % 5 == 0
         self.mark = f"/tmp/profhouse_mark_{os.getpid()}_{number}"
-        asked = [it for it in asked if it != "psql"] if not self.of_psql else ["GET /runs"]
         self.answer = answer_of(f"{seed} {script} {number}", asked, self.mark, exports)
-        if self.of_psql:
-            # (a database that has run 1 under another digest, or says what is no run at all)
-            self.answer.wanted = "refused"
 
     def data_for(self, question):
         """What the server says to a question, and what it then goes on with."""
-        if question.startswith(self.answer.asked) and not self.of_psql:
+        if question.startswith(self.answer.asked):
             return self.answer.data, self.answer.endless
         return next(response(filled(text)) for asked, text in SOUND if question.startswith(asked)), b""
 
@@ -121,49 +101,6 @@ def serve(listening, cases):
     """The server of all cases, in a process of its own."""
     while True:
         threading.Thread(target=answered, args=(listening.accept()[0], cases), daemon=True).start()
-
-
-def beyond_copy(text):
-    """What psql gets beside the rows of COPY, and these rows."""
-    outside, rows, copying = [], [], False
-    for line in text.split(b"\n"):
-        if copying and line != b"\\.":
-            rows.append(line)
-            continue
-        copying = line.startswith(b"COPY incoming FROM STDIN")
-        outside.append(line)
-    return b"\n".join(outside), b"\n".join(rows)
-
-
-def noted(folder):
-    """What psql was given at each call: the commands, the rows of COPY, and the variables."""
-    number = 1
-    while os.path.exists(os.path.join(folder, f"psql{number}")):
-        with open(os.path.join(folder, f"psql{number}"), "rb") as file:
-            outside, rows = beyond_copy(file.read())
-        with open(os.path.join(folder, f"words{number}"), "rb") as file:
-            words = file.read().split(b"\0")[:-1]
-        yield outside, list(csv.reader(io.StringIO(rows.decode(), newline=""))), words
-        number += 1
-
-
-def psql_wrong(case, outside, rows, words):
-    """What psql would do that nobody told it."""
-    if any(it.startswith(b"\\") and it != b"\\." for it in outside.split(b"\n")) or re.search(rb"(?<![:\w]):(?!')\w", outside):
-        return f"psql gets {outside}"
-    values = dict(it.split(b"=", 1) for it in words[7::2])
-    if words[:6] != PSQL_WORDS or set(words[6::2]) != {b"-v"} or values.pop(b"store") != STORE.encode():
-        return f"psql gets the words {words}"
-    label = values.pop(b"label", b"")
-    if values and [it for it, form in VALUES.items() if not re.fullmatch(form, values.pop(it))] or values or hidden_in(label):
-        return f"psql gets the words {words}"
-    for row in rows:
-        if len(row) != 6 or not re.fullmatch("[0-9]{1,19}", row[3]) or not re.fullmatch("[0-9]{1,19}", row[5]):
-            return f"psql gets the row {row}"
-    fields = [it for row in rows for it in row]
-    if rows and case.answer.wanted == "shown" and case.answer.asked == "GET /csv" and visible(case.answer.word[1].replace("\\", "\\\\")) not in fields:
-        return f"psql does not get {case.answer.word}"
-    return None
 
 
 def table_wrong(text):
@@ -205,16 +142,13 @@ def tried_in(case, top, port):
     """What is wrong with what a case does, or None."""
     folder = os.path.join(top, f"{case.script}.{case.number}")
     os.mkdir(folder)
-    for name, text in (("source.c", "events: Ir\n"), ("held", HELD[case.number // 5 % len(HELD)] if case.of_psql else "")):
-        with open(os.path.join(folder, name), "w", encoding="utf-8") as file:
-            file.write(text)
-    environment = {"PATH": f"{top}/bin:{os.environ['PATH']}", "CASE": folder, "HOME": folder, "TMPDIR": f"{top}/tmp", "LANG": "C.UTF-8"}
+    with open(os.path.join(folder, "source.c"), "w", encoding="utf-8") as file:
+        file.write("events: Ir\n")
+    environment = {"PATH": os.environ["PATH"], "HOME": folder, "TMPDIR": f"{top}/tmp", "LANG": "C.UTF-8"}
     words = (*case.words[:1], "--api", f"http://127.0.0.1:{port}/{case.number + BASE[case.script]}", "--wait", "0", *case.words[1:])
     done = ran(case.script, *words, folder=folder, environment=environment, terminal=case.terminal)
-    others = [it for it in os.listdir(folder) if not re.fullmatch(r"source\.c|held|(?:psql|words)[123]", it)]
+    others = [it for it in os.listdir(folder) if it != "source.c"]
     wrong = f"there is {others}" if others else f"it made {case.mark}" if os.path.exists(case.mark) else outcome(case, done)
-    for call in noted(folder):
-        wrong = wrong or psql_wrong(case, *call)
     shutil.rmtree(folder)
     return wrong and f"{case.name}, {' '.join(case.words[:1])}: {wrong}\n   {case.answer.asked} is {case.answer.data[:600]}\n   {done}"[:3000]
 
@@ -340,14 +274,10 @@ def results(seed):
     cases = [Case(seed, script, number) for script in SCRIPTS for number in range(COUNT)]
     top = tempfile.mkdtemp(prefix="hostile.", dir=DISK)
     try:
-        for name in ("bin", "tmp"):
-            os.mkdir(os.path.join(top, name))
-        with open(os.path.join(top, "bin", "psql"), "w", encoding="utf-8") as file:
-            file.write(PSQL)
-        os.chmod(os.path.join(top, "bin", "psql"), 0o755)
+        os.mkdir(os.path.join(top, "tmp"))
         with listening_for(cases) as port:
             found = in_children(cases, lambda case: tried_in(case, top, port))
-        left = sorted({*os.listdir(top), *os.listdir(os.path.join(top, "tmp"))} - {"bin", "tmp"})
+        left = sorted({*os.listdir(top), *os.listdir(os.path.join(top, "tmp"))} - {"tmp"})
         return [*found, (1, f"there is {left} beside the cases" if left else None)]
     finally:
         shutil.rmtree(top)

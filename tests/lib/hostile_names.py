@@ -13,7 +13,7 @@ import tempfile
 import tried as trying
 from forked import ran
 from hostile import COMMANDS, CONTROLS, MARKUP, hidden_in, strange_lines, visible
-from hostile_answers import CODE, PSQL, STORE, Sound, in_children, listening_for, noted
+from hostile_answers import CODE, Sound, in_children, listening_for
 from tried import DISK
 
 COUNT = 200
@@ -60,11 +60,9 @@ class Stored:
             tried.profhouse("import", "--db", "s.db", tried.write(f"{number}{label}", profile(self.names, number)))
         tried.profhouse("group", "--db", "s.db", "main")
         tried.profhouse("baseline", "--db", "s.db", "main", "1")
-        tried.write("bin/psql", PSQL, 0o755)
-        tried.write("held", "")
         for name in ("tmp", "home"):
             os.mkdir(tried.path(name))
-        self.environment = {"PATH": tried.environment["PATH"], "CASE": tried.folder, "HOME": tried.path("home"), "TMPDIR": tried.path("tmp"),
+        self.environment = {"PATH": tried.environment["PATH"], "HOME": tried.path("home"), "TMPDIR": tried.path("tmp"),
                             "LANG": "C.UTF-8"}
         self.before = sorted(os.listdir(tried.folder))
 
@@ -116,12 +114,6 @@ class Stored:
             found.append(None if cost == [100 + self.names.index(name)] else f"profhouse_history trend {it!r}: {cost}")
         return found
 
-    def of_psql(self, done):
-        fields = {field for _, rows, _ in noted(self.tried.folder) for row in rows for field in row}
-        labels = [word for _, _, words in noted(self.tried.folder) for word in words if word.startswith(b"label=")]
-        count = len({it for it in fields if it.startswith("twin")})
-        return [*self.each("postgres_load", self.shown, fields, done), None if count == len(TWINS) else f"postgres_load: {count} twins", hidden_wrong("postgres_load", b"".join(labels), "")]
-
     def of_callgrind(self, done):
         """The file that is written has the names as they are, and no other line for them."""
         self.tried.write("again.cg", done.out)
@@ -133,11 +125,11 @@ class Stored:
     def results(self):
         found = [*self.of_costs(self.ran("fail_if_costlier", "s.db", "main", "2", "Ir", "1000%")),
                  *self.of_a_table(self.ran("markdown_difference", "--db", "s.db", "2", "main", "Ir", "--rows", "1000")),
-                 *self.of_psql(self.ran("postgres_load", "--db", "s.db", STORE)), *self.of_callgrind(self.ran("to_callgrind", "--db", "s.db", "1"))]
+                 *self.of_callgrind(self.ran("to_callgrind", "--db", "s.db", "1"))]
         found += self.of_history()
         with self.tried.serving("s.db") as address:
             found += self.of_a_terminal(address)
-        made = {it for it in os.listdir(self.tried.folder) if not re.fullmatch(r"(?:psql|words)[123]|again\.cg|(?:s|again)\.db(?:-wal|-shm)?", it)}
+        made = {it for it in os.listdir(self.tried.folder) if not re.fullmatch(r"again\.cg|(?:s|again)\.db(?:-wal|-shm)?", it)}
         left = sorted([*made - set(self.before), *os.listdir(self.tried.path("tmp")), *os.listdir(self.tried.path("home"))])
         return [*found, f"there is {left}" if left else None]
 
@@ -173,13 +165,17 @@ WORDS = {
                          (("--db=W", "main", "2", "Ir", "5%"), (2,))],
     "markdown_difference": [(("--api=A", "W", "1", "Ir"), (2,)), (("--api=A", "2", "W", "Ir"), (2,)), (("--api=A", "2", "main", "W"), (2,)),
                             (("--api=W", "2", "main", "Ir"), (2,))],
-    "postgres_load": [(("--api=A", "W"), (0,)), (("--db=W", "main"), (2,))],
     "profhouse_history": [(("trend", "--api=A", "--event=W"), (2,)), (("trend", "--api=A", "--event=Ir", "function", "W"), (2,)),
                           (("trend", "--api=A", "--event=Ir", "--group=W"), (2,)), (("trend", "--api=A", "--event=Ir", "--runs=W"), (2,)),
                           (("jumps", "--api=A", "--event=Ir", "--more=W"), (2,)), (("jumps", "--api=A", "--event=Ir", "W"), (2,)),
                           (("grew", "--api=A", "--event=Ir", "1", "W"), (2,)), (("grew", "--api=A", "--event=Ir", "W", "2", "file"), (2,)),
                           (("callers", "--api=A", "--event=Ir", "--run=1", "W"), (2,)), (("callees", "--api=A", "--run=W", "f"), (2,)),
                           (("W", "--api=A"), (2,)), (("jumps", "--event=Ir", "--api=W"), (2,)), (("trend", "--event=Ir", "--db=W"), (2,))],
+    "fleet_load": [(("--fleet=W", "--copy=D", "main"), (2,)), (("--fleet=A/x", "--copy=D", "W"), (2,)), (("--fleet=A/x", "--copy=W", "main"), (2,)),
+                   (("--fleet=postgresql://h/W?host=/nowhere", "--copy=D", "main"), (2,)), (("--fleet=A/x", "--copy=D", "main", "--at=W"), (2,))],
+    "fleet_ask": [(("by", "--fleet=W", "--event=Ir", "function"), (2,)), (("by", "--fleet=A/x", "--event=W", "function"), (2,)),
+                  (("by", "--fleet=A/x", "--event=Ir", "W"), (2,)), (("W", "--fleet=A/x"), (2,)), (("runs", "--fleet=A/x", "--store=W", "--since=W"), (2,))],
+    "fleet_nodes": [(("start", "W"), (2,)), (("stop", "W", "n1"), (2,)), (("make", "W", "--shards=W"), (2,))],
     "profhouse_remote": [(("by", "--api=A", "--event=Ir", "W"), (2,)), (("callers", "--api=A", "--event=W", "--object=W", "W"), (0,)),
                          (("callers", "--api=A", "--event=Ir", "W"), (0, 1)), (("group", "--api=A", "W"), (0,)), (("import", "--api=A", "W"), (0, 1)),
                          (("join", "--api=A", "main", "W"), (2,)), (("W", "--api=A"), (2,)), (("runs", "--api=W"), (2,))],
@@ -207,14 +203,12 @@ def tried_word(seed, script, number, top, port):
     put = {"W": word, "A": f"http://127.0.0.1:{port}/0", "D": f"{top}/s.db"}
     words = [re.sub(r"\b[WAD]\b(?!:)", lambda it: put[it[0]], one) for one in form]
     words += ["--wait=0"] if any("--api" in it for it in form) else []
-    with open(os.path.join(folder, "held"), "wb"):
-        pass
-    environment = {"PATH": f"{top}/bin:{os.environ['PATH']}", "CASE": folder, "HOME": f"{folder}/home", "TMPDIR": f"{folder}/tmp", "LANG": "C.UTF-8",
+    environment = {"PATH": os.environ["PATH"], "HOME": f"{folder}/home", "TMPDIR": f"{folder}/tmp", "LANG": "C.UTF-8",
                    "PROFHOUSE": f"{top}/none"}
     done = ran(script, *words, folder=folder, environment=environment)
     wrong = f"the status is {done.status}, and not {statuses}" if done.status not in statuses else hidden_wrong("it", done.out + done.err, "\n")
     wrong = wrong or (f"it prints {strange_lines(script, done.err)}" if strange_lines(script, done.err) else None)
-    left = [it for it in os.listdir(folder) if not re.fullmatch(r"tmp|home|held|(?:psql|words)[123]", it) and script != "backup_store"]
+    left = [it for it in os.listdir(folder) if not re.fullmatch(r"tmp|home", it) and script != "backup_store"]
     left += os.listdir(f"{folder}/tmp") + os.listdir(f"{folder}/home")
     wrong = wrong or (f"there is {left}" if left else f"it made {mark}" if os.path.exists(mark) else None)
     shutil.rmtree(folder)
@@ -246,10 +240,6 @@ def tried_backup(seed, number, top):
 def results_of_words(seed, program):
     top = tempfile.mkdtemp(prefix="hostile.", dir=DISK)
     try:
-        os.mkdir(os.path.join(top, "bin"))
-        with open(os.path.join(top, "bin", "psql"), "w", encoding="utf-8") as file:
-            file.write(PSQL)
-        os.chmod(os.path.join(top, "bin", "psql"), 0o755)
         with trying.new_folder(program) as tried:
             tried.profhouse("import", "--db", "s.db", tried.write("a.cg", "events: Ir\nfn=f\n1 5\n"))
             with sqlite3.connect(tried.path("s.db")) as base:
