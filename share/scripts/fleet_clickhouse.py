@@ -17,6 +17,7 @@ import time
 from collections import defaultdict
 from urllib.parse import unquote, urlencode, urlsplit
 
+from fleet_engines import grouped
 from fleet_native import block, boundary_for, little, multipart, rows_of, string
 from fleet_store import Sums
 from profhouse_script import Fault, WordFault, reason_of, shown
@@ -509,17 +510,6 @@ def batches(runs):
 def joined(first, rest):
     yield first
     yield from rest
-
-
-def grouped(weights):
-    """Weights as products: a factor, events, and the runs that have all of them."""
-    runs = defaultdict(list)
-    for load, event, factor in weights:
-        runs[factor, event].append(load)
-    events = defaultdict(list)
-    for (factor, event), loads in runs.items():
-        events[factor, tuple(sorted(loads))].append(event)
-    return [(factor, its, loads) for (factor, loads), its in events.items()]
 
 
 class Try:

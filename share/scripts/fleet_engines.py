@@ -1,4 +1,4 @@
-"""What the words of fleet_load and fleet_ask share: times, and which engine keeps a fleet, by its address.
+"""What fleet_load and fleet_ask share: times, which engine keeps a fleet, by its address, and how a question is cut for it.
 
 It is imported, not run.
 """
@@ -8,6 +8,7 @@ import contextlib
 import os
 import re
 import time
+from collections import defaultdict
 
 from profhouse_script import WordFault, shown
 
@@ -24,6 +25,17 @@ def time_of(text):
                 if found.tm_year >= 1970:
                     return calendar.timegm(found)
     raise argparse.ArgumentTypeError(f"'{text}' is no time, as 2026-11-29 or 2026-11-29T16:00:00Z")
+
+
+def grouped(weights):
+    """Weights as products: a factor, events, and the runs that have all of them."""
+    runs = defaultdict(list)
+    for load, event, factor in weights:
+        runs[factor, event].append(load)
+    events = defaultdict(list)
+    for (factor, event), loads in runs.items():
+        events[factor, tuple(sorted(loads))].append(event)
+    return [(factor, its, loads) for (factor, loads), its in events.items()]
 
 
 def add_fleet(words):

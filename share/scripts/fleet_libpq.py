@@ -78,10 +78,6 @@ def number(value):
     return 20, struct.pack(">q", value)
 
 
-def numbers(values):
-    return 1016, array(20, (struct.pack(">q", it) for it in values))
-
-
 def integers(values):
     return 1007, array(23, (struct.pack(">i", it) for it in values))
 

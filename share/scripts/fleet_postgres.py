@@ -6,7 +6,8 @@ import hashlib
 import operator
 import struct
 
-from fleet_libpq import DEADLOCK, UNIQUE, Connection, Refused, blob, blobs, bytes_of, integer, integers, number, numbers, text, texts
+from fleet_libpq import DEADLOCK, UNIQUE, Connection, Refused, blob, blobs, bytes_of, integer, integers, number, text, texts
+from fleet_engines import grouped
 from fleet_store import Sums
 from profhouse_script import Fault
 
@@ -56,35 +57,35 @@ BACK = {
     "calls": "SELECT part, sum(n), count(*) FROM profhouse.call WHERE load = $1 AND month = $2 GROUP BY part",
     "stacks": "SELECT coalesce(sum(n), 0), count(*) FROM profhouse.stack WHERE load = $1 AND month = $2",
 }
-# The runs, events and formulas that count, each with how often: what a question about sums is joined with.
-WEIGHTS = " JOIN unnest($1::integer[], $2::integer[], $3::bigint[]) AS w (load, event, n) ON s.load = w.load AND s.event = w.event" \
-    " WHERE s.load = ANY ($1) AND s.month = ANY ($4)"
+# The runs that count, the events of them, and the months in which to look: each question about sums is asked for each factor.
+OF_RUNS = " WHERE s.load = ANY ($1) AND s.event = ANY ($2) AND s.month = ANY ($3) GROUP BY "
 SUMS = {
-    "object": "SELECT s.object, w.n, sum(s.self) FROM profhouse.by_function AS s" + WEIGHTS + " GROUP BY 1, 2",
-    "function": "SELECT s.object, s.function, w.n, sum(s.self) FROM profhouse.by_function AS s" + WEIGHTS + " GROUP BY 1, 2, 3",
-    "file": "SELECT s.file, w.n, sum(s.cost) FROM profhouse.cost AS s" + WEIGHTS + " GROUP BY 1, 2",
-    "line": "SELECT s.file, s.line, w.n, sum(s.cost) FROM profhouse.cost AS s" + WEIGHTS + " GROUP BY 1, 2, 3",
-    "thread": "SELECT s.thread, w.n, sum(s.cost) FROM profhouse.cost AS s" + WEIGHTS + " GROUP BY 1, 2",
-    "run": "SELECT s.load, s.object, s.function, w.n, sum(s.self) FROM profhouse.by_function AS s" + WEIGHTS + " GROUP BY 1, 2, 3, 4",
-    "inclusive": "SELECT s.object, s.function, w.n, sum(s.self), sum(s.called) FROM profhouse.by_function AS s" + WEIGHTS + " GROUP BY 1, 2, 3",
+    "object": "SELECT s.object, sum(s.self) FROM profhouse.by_function AS s" + OF_RUNS + "1",
+    "function": "SELECT s.object, s.function, sum(s.self) FROM profhouse.by_function AS s" + OF_RUNS + "1, 2",
+    "file": "SELECT s.file, sum(s.cost) FROM profhouse.cost AS s" + OF_RUNS + "1",
+    "line": "SELECT s.file, s.line, sum(s.cost) FROM profhouse.cost AS s" + OF_RUNS + "1, 2",
+    "thread": "SELECT s.thread, sum(s.cost) FROM profhouse.cost AS s" + OF_RUNS + "1",
+    "run": "SELECT s.load, s.object, s.function, sum(s.self) FROM profhouse.by_function AS s" + OF_RUNS + "1, 2, 3",
+    "inclusive": "SELECT s.object, s.function, sum(s.self), sum(s.called) FROM profhouse.by_function AS s" + OF_RUNS + "1, 2",
 }
-TREND = "SELECT s.load, w.n, sum(s.self) FROM profhouse.by_function AS s" + WEIGHTS + " AND s.function = $6 AND s.object = $5 GROUP BY 1, 2"
+TREND = "SELECT s.load, sum(s.self) FROM profhouse.by_function AS s" + OF_RUNS.replace(" GROUP BY ", " AND s.function = $5 AND s.object = $4 GROUP BY 1")
 # Calls of a function are told apart by the other side; all others are one row, so that the sums can be compared.
 CALLS = {
-    "callers": """SELECT CASE WHEN s.called_object = $5 AND s.called_function = $6 THEN s.object END,
-CASE WHEN s.called_object = $5 AND s.called_function = $6 THEN s.function END, s.part > 0, w.n, sum(s.n) FROM profhouse.call AS s""",
-    "callees": """SELECT CASE WHEN s.object = $5 AND s.function = $6 THEN s.called_object END,
-CASE WHEN s.object = $5 AND s.function = $6 THEN s.called_function END, s.part > 0, w.n, sum(s.n) FROM profhouse.call AS s""",
+    "callers": """SELECT CASE WHEN s.called_object = $4 AND s.called_function = $5 THEN s.object END,
+CASE WHEN s.called_object = $4 AND s.called_function = $5 THEN s.function END, sum(s.n) FROM profhouse.call AS s""",
+    "callees": """SELECT CASE WHEN s.object = $4 AND s.function = $5 THEN s.called_object END,
+CASE WHEN s.object = $4 AND s.function = $5 THEN s.called_function END, sum(s.n) FROM profhouse.call AS s""",
 }
-CALL_WEIGHTS = " JOIN unnest($1::integer[], $2::integer[], $3::bigint[]) AS w (load, part, n) ON s.load = w.load AND s.part = w.part" \
-    " WHERE s.load = ANY ($1) AND s.month = ANY ($4) GROUP BY 1, 2, 3, 4"
+CALLS_OF_RUNS = " WHERE s.load = ANY ($1) AND s.part = ANY ($2) AND s.month = ANY ($3) GROUP BY 1, 2"
+# Of more runs than these the whole month is read, and no index.
+MANY = 50
 EVENTS = """SELECT e.load, e.event, 1, e.self_cost, e.call_cost, e.called FROM profhouse.event AS e JOIN profhouse.name AS n ON n.id = e.name
 WHERE e.load = ANY ($1) AND sha256(n.bytes) = sha256($2) AND n.bytes = $2"""
 DERIVED = """SELECT d.load, c.event, c.n, e.self_cost, e.call_cost, e.called FROM profhouse.derived AS d JOIN profhouse.name AS n ON n.id = d.name
 LEFT JOIN profhouse.coef AS c ON c.load = d.load AND c.derived = d.name LEFT JOIN profhouse.event AS e ON e.load = d.load AND e.event = c.event
 WHERE d.load = ANY ($1) AND sha256(n.bytes) = sha256($2) AND n.bytes = $2"""
-HAS = "SELECT EXISTS (SELECT FROM profhouse.by_function WHERE load = ANY ($1) AND month = ANY ($2) AND object = $3 AND function = $4)" \
-    " OR EXISTS (SELECT FROM profhouse.call WHERE load = ANY ($1) AND month = ANY ($2)" \
+HAS = "SELECT EXISTS (SELECT FROM profhouse.by_function WHERE load = ANY ($1) AND month = ANY ($2) AND object = $3 AND function = $4)"
+HAS_CALL = "SELECT EXISTS (SELECT FROM profhouse.call WHERE load = ANY ($1) AND month = ANY ($2)" \
     " AND ((object = $3 AND function = $4) OR (called_object = $3 AND called_function = $4)))"
 
 
@@ -306,32 +307,44 @@ class Postgres:
         derived = [tuple(int(it or 0) for it in row) for row in self.link.run(DERIVED, *asked)]
         return own + [row for row in derived if row[0] not in has]
 
-    def weighted(self, weights, months):
-        loads, events, factors = zip(*weights) if weights else ((), (), ())
-        return integers(loads), integers(events), numbers(factors), integers(months)
+    def each(self, weights, text_of_query, months, *more):
+        """The rows of a query for each factor: those events and runs that it has in common are asked at once."""
+        for factor, events, loads in grouped(weights):
+            self.link.run("SET LOCAL enable_bitmapscan = off" if len(loads) > MANY else "SET LOCAL enable_bitmapscan = on")
+            for row in self.link.run(text_of_query, integers(loads), integers(events), integers(months), *more):
+                yield factor, row
 
     def sums(self, key, weights, months):
         """The sums by a key: the key's parts, a factor, and the sum of all that counts by this factor."""
-        loads, events, factors, months = self.weighted(weights, months)
-        return [tuple(map(int, row)) for row in self.link.run(SUMS[key], loads, events, factors, months)]
+        width = 2 if key == "inclusive" else -1
+        found = ((factor, tuple(map(int, row))) for factor, row in self.each(weights, SUMS[key], months))
+        return [(*row[:width], factor, *row[width:]) for factor, row in found]
 
     def whole(self, weights, months):
         """(a load is one transaction, so that its sums by function are all there)"""
 
     def trend(self, weights, months, object_, function):
         """What a function costs in each run: load, factor, sum."""
-        rows = self.link.run(TREND, *self.weighted(weights, months), integer(object_), integer(function))
-        return [tuple(map(int, row)) for row in rows]
+        rows = self.each(weights, TREND, months, integer(object_), integer(function))
+        return [(int(load), factor, int(total)) for factor, (load, total) in rows]
 
     def calls(self, side, weights, loads, months, object_, function):
         """The calls of a function by the other side, and all others as None: object, function, whether it is a cost, factor, sum."""
-        parts = [(load, 0, 1) for load in loads] + [(load, event + 1, factor) for load, event, factor in weights]
-        rows = self.link.run(CALLS[side] + CALL_WEIGHTS, *self.weighted(parts, months), integer(object_), integer(function))
-        return [(one and int(one), two and int(two), cost == b"t", int(n), int(total)) for one, two, cost, n, total in rows]
+        found = []
+        for cost, parts in ((False, [(load, 0, 1) for load in loads]), (True, [(load, event + 1, factor) for load, event, factor in weights])):
+            for factor, (one, two, total) in self.each(parts, CALLS[side] + CALLS_OF_RUNS, months, integer(object_), integer(function)):
+                found.append((one and int(one), two and int(two), cost, factor, int(total)))
+        return found
 
     def has(self, loads, months, object_, function):
         """Whether any of these runs has a function."""
-        return self.link.run(HAS, integers(loads), integers(months), integer(object_), integer(function)) == [(b"t",)]
+        asked = integers(loads), integers(months), integer(object_), integer(function)
+        # (by the index on functions)
+        for scan in ("seqscan", "bitmapscan"):
+            self.link.run(f"SET LOCAL enable_{scan} = off")
+        found = self.link.run(HAS, *asked)
+        self.link.run("SET LOCAL enable_seqscan = on")
+        return found == [(b"t",)] or self.link.run(HAS_CALL, *asked) == [(b"t",)]
 
     def number(self, name):
         """The number of a name, or None."""

@@ -214,13 +214,26 @@ def inclusive(fleet, runs, event):
                   [([b"%d" % cost, share(cost, total)], it) for cost, it in costs])
 
 
+def numbers_of(fleet, object_, function):
+    """The numbers of the names of a function."""
+    ids = [fleet.engine.number(it) for it in (object_, function)]
+    if None in ids:
+        raise Fault("no such name")
+    return ids
+
+
+def known(fleet, chosen, ids, found):
+    """Refuses a function that none of the runs has. (Where something was found of it, it need not be sought again.)"""
+    if not found and not fleet.engine.has(chosen.loads, chosen.months, *ids):
+        raise Fault("no such name")
+
+
 def calls(fleet, runs, event, side, object_, function):
     """Who calls a function, or whom it calls."""
     chosen = fleet.chosen(runs, event)
-    ids = [fleet.engine.number(it) for it in (object_, function)]
-    if None in ids or not fleet.engine.has(chosen.loads, chosen.months, *ids):
-        raise Fault("no such name")
+    ids = numbers_of(fleet, object_, function)
     rows = fleet.engine.calls(side, chosen.weights(), chosen.loads, chosen.months, *ids)
+    known(fleet, chosen, ids, any(row[:2] != (None, None) for row in rows))
     costs, counts = added(row[:2] + row[3:] for row in rows if row[2]), added(row[:2] + row[3:] for row in rows if not row[2])
     proved(sum(costs.values()), chosen.stated("calls"), "the costs of calls")
     proved(sum(counts.values()), sum(it.call_count for it in chosen.runs), "the calls")
@@ -261,11 +274,10 @@ def label_of(run):
 def trend(fleet, runs, event, object_, function):
     """What a function costs in each run, in the order of time."""
     chosen = fleet.chosen(runs, event)
-    ids = [fleet.engine.number(it) for it in (object_, function)]
-    if None in ids or not fleet.engine.has(chosen.loads, chosen.months, *ids):
-        raise Fault("no such name")
+    ids = numbers_of(fleet, object_, function)
     fleet.engine.whole(chosen.weights(), chosen.months)
     costs = added(fleet.engine.trend(chosen.weights(), chosen.months, *ids))
+    known(fleet, chosen, ids, bool(costs))
     rows = [([b"%d" % costs[it.load,], it.store.encode(), b"%d" % it.number, utc(it.at), label_of(it)], ())
             for it in sorted(runs, key=lambda it: (it.at, it.store, it.number)) if it.load in chosen.having]
     return Report([b"trend", escaped(event), text_of((object_, function))], ("cost", "store", "run", "time", "label"), (), None, rows)
