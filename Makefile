@@ -5,7 +5,6 @@ PREFIX = /usr/local
 DESTDIR =
 INTO = $(DESTDIR)$(PREFIX)
 PAGE = $(wildcard share/web/*)
-FLEET = clickhouse engines libpq native postgres reports store
 SCRIPTS = folded fleet hostile http import reading reports rows run store total versions
 
 # What is installed: the mode, the file here, and its place below PREFIX.
@@ -26,7 +25,13 @@ FILES = 755:$(PROGRAM):bin/profhouse \
 	755:share/scripts/fleet_ask:share/profhouse/fleet_ask \
 	755:share/scripts/fleet_load:share/profhouse/fleet_load \
 	755:share/scripts/fleet_nodes:share/profhouse/fleet_nodes \
-	$(foreach it,$(FLEET),644:share/scripts/fleet_$(it).py:share/profhouse/fleet_$(it).py) \
+	644:share/scripts/fleet_clickhouse.py:share/profhouse/fleet_clickhouse.py \
+	644:share/scripts/fleet_engines.py:share/profhouse/fleet_engines.py \
+	644:share/scripts/fleet_libpq.py:share/profhouse/fleet_libpq.py \
+	644:share/scripts/fleet_native.py:share/profhouse/fleet_native.py \
+	644:share/scripts/fleet_postgres.py:share/profhouse/fleet_postgres.py \
+	644:share/scripts/fleet_reports.py:share/profhouse/fleet_reports.py \
+	644:share/scripts/fleet_store.py:share/profhouse/fleet_store.py \
 	755:share/scripts/profhouse_remote:share/profhouse/profhouse_remote \
 	755:share/scripts/profhouse_web:share/profhouse/profhouse_web \
 	755:share/scripts/same_paths:share/profhouse/same_paths \
