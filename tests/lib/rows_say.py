@@ -321,15 +321,17 @@ def has_function(rows, runs_asked, function):
 
 
 def _calls(rows, word, event, function, run):
-    costs, times, chosen = Counter(), Counter(), rows.selected(run)
+    costs, times, chosen, is_known = Counter(), Counter(), rows.selected(run), False
     for it, counts in rows.counts(chosen, event).items():
         for caller, called, part, count in rows.calls(it):
+            is_known = is_known or function in (caller, called)
             if function != (called if word == b"callers" else caller):
                 continue
             other = caller if word == b"callers" else called
             times[other] += count if part == 0 else 0
             costs[other] += counts.get(part - 1, 0) * count if part else 0
-    if not has_function(rows, chosen, function):
+    # A function that a call has is known; for any other the cells and the stacks are read.
+    if not is_known and not has_function(rows, chosen, function):
         raise Refused("no such name")
     order = sorted(times, key=lambda key: (-bounded(costs)[key], key))
     lines = [(costs[key], times[key], shown(key)) for key in order]
