@@ -85,7 +85,7 @@ def store(tried, name, files, stacks=()):
 def stores(tried):
     """Makes the stores; their names."""
     every = ("--cache-sim=yes", "--branch-sim=yes")
-    real = {it: [dumped(tried, f"{it}{n}", [word % n if "%d" in word else word for word in words], *every) for n in (20, 300, 900)]
+    real = {it: [dumped(tried, f"{it}{n}", [word.replace("%d", str(n), 1) for word in words], *every) for n in (20, 300, 900)]
             for it, words in PROGRAMS.items()}
     for path in [*real["perl"], *real["git"][:2]]:
         with_derived(tried, path)
