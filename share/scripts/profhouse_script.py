@@ -84,5 +84,8 @@ def run(name, main, fault=2):
         complain(name, named)
         status = 2 if isinstance(error, WordFault) else fault
         # What is not yet written is not, or cannot be, and Python would try again at its end.
-        os.dup2(os.open(os.devnull, os.O_WRONLY), 1)
+        nowhere = os.open(os.devnull, os.O_WRONLY)
+        os.dup2(nowhere, 1)
+        if nowhere != 1:
+            os.close(nowhere)
     sys.exit(status)
