@@ -91,9 +91,12 @@ class Compared:
                 if b"\0" in key or not known or function.startswith(b"-") or not function:
                     continue
                 done = self.asked("trend", "--store", name, "--event", event, f"--object={object_.decode('utf-8', 'surrogateescape')}", function)
-                found = [(int(it.split(b" ")[0]), int(it.split(b" ")[2])) for it in done.out.split(b"\n")[1:-1]]
+                rows = [it.split(b" ") for it in done.out.split(b"\n")[1:-1]]
+                # (in the order of their times, which are those of the loads, so not always of their numbers)
+                found, times = sorted((int(it[2]), int(it[0])) for it in rows), [(it[3], int(it[2])) for it in rows]
                 self.lines += len(found)
-                self.tried.expect(f"trend of {key} in {name}, {event}", (done.err, found), (b"", [(by_run[run].get(key, 0), run) for run in having]))
+                wanted = sorted((run, by_run[run].get(key, 0)) for run in having)
+                self.tried.expect(f"trend of {key} in {name}, {event}", (done.err, found, times), (b"", wanted, sorted(times)))
             self.grown(name, event, having)
 
     def grown(self, name, event, having):
