@@ -1,4 +1,3 @@
 pub mod Enough
 pub mod InStep
-pub mod Places
 pub mod Rows

@@ -2,6 +2,7 @@
 use Rattle.std.specs.Prelude.{ℕ, ◌*◌, List, map}
 use Rattle.std.specs.Borrow.{Bor}
 use Rattle.cost_rows.specs.Keys.{place_of_row}
+use Rattle.cost_rows.specs.Merging.{seen}
 use Rattle.cost_rows.specs.Plain.{plain_cell}
 use Rattle.cost_rows.specs.Sums.{Spot}
 use Rattle.cost_rows.specs.declared.rows.Cell.{Cell}
@@ -19,6 +20,13 @@ use Rattle.cost_reports.specs.declared.verifying.Check.{Check}
 
 abbrev pub lent_place : LentPlace → Spot
 lent_place p = record { object = p.object.now; file = p.file.now; function = p.function.now; line = p.line; thread = p.thread }
+
+-- sums and pairs of sums by places
+abbrev pub lent_sums : List (LentPlace × ℕ) → List (Spot × ℕ)
+lent_sums = seen lent_place
+
+abbrev pub lent_pairs : List (LentPlace × Pair) → List (Spot × Pair)
+lent_pairs = seen lent_place
 
 abbrev pub plain_row : Row → Spot × ℕ
 plain_row r = (lent_place r.place, r.cost.0)

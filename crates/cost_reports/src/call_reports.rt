@@ -4,11 +4,10 @@ ghost use Rattle.report_texts.specs.Calls.{call_cmp, call_report_of, calls_of_ro
 ghost use Rattle.report_texts.specs.Functions.{function_spot, is_one_function};
 ghost use Rattle.report_texts.specs.Pairs.{firsts_of, seconds_of, AreBelow};
 ghost use Rattle.report_texts.specs.Ranking.{ranked};
-ghost use Rattle.cost_reports.specs.Places.{held_place};
-ghost use Rattle.cost_reports.specs.Rows.{plain_calls};
+ghost use Rattle.cost_reports.specs.Rows.{lent_place, plain_calls};
 
 use crate::pair_sums::PairSums;
-use crate::places::{HeldPlace, LentPlace, function_place};
+use crate::places::{LentPlace, function_place};
 use crate::rows::CallRow;
 use cost_rows::CallEdge;
 use report_texts::{CallSide, Pair};
@@ -17,56 +16,45 @@ use std::cmp::Reverse;
 use std::marker::Model;
 
 /// The calls of one function, added up by the function on the other side: what they cost, and how
-/// many there were.
+/// many there were. The names are lent, so a sum takes the same memory whatever its names.
 #[derive(Drop)]
-pub struct CallSums {
+pub struct CallSums<'n> {
     side: CallSide,
-    function: HeldPlace,
-    sums: PairSums,
+    function: LentPlace<'n>,
+    sums: PairSums<'n>,
 }
 
-impl Model for CallSums {
+impl<'n> Model for CallSums<'n> {
     ghost use Rattle.report_texts.specs.Calls.{CallsOfFunction};
-    ghost use Rattle.cost_reports.specs.Places.{held_place};
+    ghost use Rattle.cost_reports.specs.Rows.{lent_place};
 
     ghost Value = { CallsOfFunction };
 
-    ghost view = { λ a. record { side = a.side; function = held_place a.function; sums = a.sums } };
-}
-
-/// A function of an object, with names of its own.
-fn held_function(alloc: Global, object: &[u8], function: &[u8]) -> Result<HeldPlace, AllocError>
-    ensures { IfOk result (λ place. held_place place ≡ function_spot object.now function.now) }
-{
-    let mut place = HeldPlace::new(alloc);
-    place.set(&function_place(object, function))?;
-    Ok(place)
+    ghost view = { λ a. record { side = a.side; function = lent_place a.function; sums = a.sums } };
 }
 
 /// Whether a function is one of an object and a name.
-fn is_function(place: &HeldPlace, object: &[u8], function: &[u8]) -> bool
-    ensures { result ≡ is_one_function (held_place place.now) (function_spot object.now function.now) }
+fn is_function(place: &LentPlace<'_>, object: &[u8], function: &[u8]) -> bool
+    ensures { result ≡ is_one_function (lent_place place.now) (function_spot object.now function.now) }
 {
-    place.object.as_slice() == object && place.function.as_slice() == function
+    place.object == object && place.function == function
 }
 
-impl CallSums {
-    /// Of the calls to a function, or from it; no row was added. Once the names of the functions on the other side have
-    /// more than `most` bytes, so has the text of the sums: then a row is refused as one that there is no memory for.
+impl<'n> CallSums<'n> {
+    /// Of the calls to a function, or from it; no row was added. Takes no memory.
     pub fn new(
         alloc: Global,
         side: CallSide,
-        object: &[u8],
-        function: &[u8],
-        most: usize,
-    ) -> Result<CallSums, AllocError>
-        ensures { IfOk result (λ calls. calls ≡ record { side = side; function = function_spot object.now function.now; sums = [] }) }
+        object: &'n [u8],
+        function: &'n [u8],
+    ) -> CallSums<'n>
+        ensures { result ≡ record { side = side; function = function_spot object.now function.now; sums = [] } }
     {
-        Ok(CallSums {
+        CallSums {
             side,
-            function: held_function(alloc, object, function)?,
-            sums: PairSums::new(alloc, most),
-        })
+            function: function_place(object, function),
+            sums: PairSums::new(alloc),
+        }
     }
 
     /// What the calls cost.
@@ -87,7 +75,7 @@ impl CallSums {
 
     /// Adds a row of calls, if they are to the function, or from it. A refusal leaves the sums as
     /// they were.
-    pub fn add(&mut self, row: &CallEdge<&[u8], u128>) -> Result<(), AllocError>
+    pub fn add(&mut self, row: &CallEdge<&'n [u8], u128>) -> Result<(), AllocError>
         requires small { AreBelow (firsts_of self.old.sums + row.now.costs) (seconds_of self.old.sums + row.now.count) }
         ensures ok { OnOk result (self.new ≡ with_calls self.old (calls_of_row row.now)) }
         ensures err { OnErr result (self.new ≡ self.old) }
@@ -109,7 +97,7 @@ impl CallSums {
             first: row.costs,
             second: row.count,
         };
-        self.sums.add(&other, calls)
+        self.sums.add(other, calls)
     }
 }
 
@@ -133,14 +121,14 @@ impl<'a> Model for CallReport<'a> {
 }
 
 /// The functions on the other side with their sums, in order.
-fn call_rows(alloc: Global, sums: &PairSums) -> Result<Vec<CallRow<'_>>, AllocError>
+fn call_rows<'n>(alloc: Global, sums: &PairSums<'n>) -> Result<Vec<CallRow<'n>>, AllocError>
     ensures { IfOk result (λ rows. plain_calls rows.items ≡ sums.now) }
 {
     let mut rows = Vec::with_capacity(alloc, sums.len())?;
     for (place, pair) in sums.iter() {
         rows.push(CallRow {
             cost: Reverse(pair.first),
-            place: place.lend(),
+            place: *place,
             count: pair.second,
         })?;
     }
@@ -155,14 +143,14 @@ fn rank(rows: &mut Vec<CallRow<'_>>)
 }
 
 /// The callers or callees of a function. Memory is the only refusal.
-pub fn calls<'a>(alloc: Global, sums: &'a CallSums) -> Result<CallReport<'a>, AllocError>
+pub fn calls<'n>(alloc: Global, sums: &CallSums<'n>) -> Result<CallReport<'n>, AllocError>
     ensures { IfOk result (λ report. report ≡ call_report_of sums.now) }
 {
     let mut rows = call_rows(alloc, &sums.sums)?;
     rank(&mut rows);
     Ok(CallReport {
         side: sums.side,
-        function: sums.function.lend(),
+        function: sums.function,
         rows,
         total: sums.sums.total(),
     })

@@ -4,20 +4,21 @@ ghost use Rattle.cost_rows.specs.Sums.{Spot};
 ghost use Rattle.report_texts.specs.Differences.{beside, difference_of, differing, difference_cmp, pair_on};
 ghost use Rattle.report_texts.specs.Ranking.{ranked};
 ghost use Rattle.cost_reports.specs.InStep.{from_row, ComesNext, IsAlone, IsInOrder};
-ghost use Rattle.cost_reports.specs.Rows.{lent_place, plain_differences, sum_of_row};
+ghost use Rattle.cost_reports.specs.Rows.{lent_place, lent_sums, plain_differences};
 
+use crate::lent_sums::LentSums;
 use crate::places::LentPlace;
-use crate::ranks::row_of;
 use crate::rows::{DifferenceRow, Row};
 use crate::signed::less;
-use cost_rows::{Key, Merged, SumRows};
+use cost_rows::Key;
 use report_texts::{Pair, Side, Signed};
 use std::alloc::{AllocError, Global};
 use std::cmp::{Ordering, Reverse};
+use std::collections::btree_map::Iter;
 use std::marker::Model;
 
 /// The first rows less the second, by key: rows of the differences, and the difference of all. The
-/// names of its rows are those of the merged rows that it is of.
+/// names of its rows are those that are lent to its sums.
 #[derive(Drop)]
 pub struct Difference<'a> {
     pub(crate) key: Key,
@@ -97,11 +98,14 @@ fn next_of<'a>(first: Option<Row<'a>>, second: Option<Row<'a>>) -> Option<Next<'
 }
 
 /// The next row of sums.
-fn next_row<'a>(sums: &mut SumRows<'a>) -> Option<Row<'a>>
-    ensures { map sum_of_row sums.old ≡ from_row result (map sum_of_row sums.new) }
+fn next_row<'n>(sums: &mut Iter<'_, LentPlace<'n>, u128>) -> Option<Row<'n>>
+    ensures { lent_sums sums.old ≡ from_row result (lent_sums sums.new) }
 {
-    let row = sums.next()?;
-    Some(row_of(&row))
+    let (place, cost) = sums.next()?;
+    Some(Row {
+        cost: Reverse(*cost),
+        place: *place,
+    })
 }
 
 /// Adds what a place has on the first side less what it has on the second, where they differ.
@@ -125,16 +129,16 @@ fn push_differing<'a>(
 
 /// The places whose sums on the two sides differ, in their order. Both sides come in this order, so one
 /// walk in step finds them.
-fn differing_rows<'a>(
+fn differing_rows<'n>(
     alloc: Global,
-    first: &'a Merged,
-    second: &'a Merged,
-) -> Result<Vec<DifferenceRow<'a>>, AllocError>
-    ensures { IfOk result (λ rows. plain_differences rows.items ≡ differing (beside first.entry.now.sums second.entry.now.sums)) }
+    first: &LentSums<'n>,
+    second: &LentSums<'n>,
+) -> Result<Vec<DifferenceRow<'n>>, AllocError>
+    ensures { IfOk result (λ rows. plain_differences rows.items ≡ differing (beside first.now.sums second.now.sums)) }
 {
     let mut rows = Vec::new(alloc);
-    let mut firsts = first.rows();
-    let mut seconds = second.rows();
+    let mut firsts = first.iter();
+    let mut seconds = second.iter();
     let mut left = next_row(&mut firsts);
     let mut right = next_row(&mut seconds);
     'places: while let Some(next) = next_of(left, right) {
@@ -158,11 +162,11 @@ fn rank(rows: &mut Vec<DifferenceRow<'_>>)
 }
 
 /// What the first rows cost less what the second cost, both by one key. Memory is the only refusal.
-pub fn subtract<'a>(
+pub fn subtract<'n>(
     alloc: Global,
-    first: &'a Merged,
-    second: &'a Merged,
-) -> Result<Difference<'a>, AllocError>
+    first: &LentSums<'n>,
+    second: &LentSums<'n>,
+) -> Result<Difference<'n>, AllocError>
     ensures { IfOk result (λ difference. difference ≡ difference_of first.now.key first.now.sums second.now.sums) }
 {
     let mut rows = differing_rows(alloc, first, second)?;

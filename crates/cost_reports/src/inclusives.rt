@@ -8,6 +8,7 @@ ghost use Rattle.report_texts.specs.Pairs.{AreBelow};
 ghost use Rattle.cost_reports.specs.Rows.{plain_rows};
 
 use crate::frames::functions_in;
+use crate::lent_sums::LentSums;
 use crate::ranks::ranked_rows;
 use crate::rows::Row;
 use cost_rows::{Cell, Key, Merged, StackCount};
@@ -15,10 +16,10 @@ use std::alloc::{AllocError, Global};
 use std::collections::BTreeSet;
 use std::marker::Model;
 
-/// What functions cost with all that they call: contracts see a cost above 0 for each function, in order,
-/// and what all cost by themselves.
+/// What functions cost in stacks, with all that they call: contracts see a cost above 0 for each function, in order,
+/// and what all cost by themselves. The names of the functions are held, each once.
 #[derive(Drop)]
-pub struct InclusiveSums {
+pub struct FrameSums {
     alloc: Global,
     merged: Merged,
     total: u128,
@@ -26,7 +27,7 @@ pub struct InclusiveSums {
     ghost small: { total < 2 ^ 112 },
 }
 
-impl Model for InclusiveSums {
+impl Model for FrameSums {
     ghost use Rattle.report_texts.specs.Inclusive.{InclusiveCosts};
 
     ghost Value = { InclusiveCosts };
@@ -59,24 +60,24 @@ fn add_functions(
 }
 
 /// Adds the sums of others to those of some rows.
-fn add_sums(merged: &mut Merged, others: &Merged) -> Result<(), AllocError>
-    requires small { total_of merged.old.sums + total_of others.now.sums < 2 ^ 112 }
-    ensures sums { OnOk result (merged.new ≡ fold with_row merged.old (rows_of others.now.sums)) }
-    ensures key { merged.new.key ≡ merged.old.key }
+fn add_sums<'n>(sums: &mut LentSums<'n>, others: &'n Merged) -> Result<(), AllocError>
+    requires small { total_of sums.old.sums + total_of others.now.sums < 2 ^ 112 }
+    ensures sums { OnOk result (sums.new ≡ fold with_row sums.old (rows_of others.now.sums)) }
+    ensures key { sums.new.key ≡ sums.old.key }
 {
     for row in others.rows() {
-        merged.add(&row)?;
+        sums.add(&row)?;
     }
     Ok(())
 }
 
-impl InclusiveSums {
+impl FrameSums {
     /// No row was added. Takes no memory.
-    pub fn new(alloc: Global) -> InclusiveSums
+    pub fn new(alloc: Global) -> FrameSums
         ensures sums { result.sums ≡ [] }
         ensures total { result.total ≡ 0 }
     {
-        InclusiveSums {
+        FrameSums {
             alloc,
             merged: Merged::new(alloc, Key::Function),
             total: 0,
@@ -113,20 +114,40 @@ impl InclusiveSums {
     }
 
     /// These sums with others, by function, of which so much is self cost.
-    pub fn with_costs(self, costs: Merged, self_cost: u128) -> Result<InclusiveSums, AllocError>
+    pub fn with_costs<'n>(
+        &'n self,
+        costs: LentSums<'n>,
+        self_cost: u128,
+    ) -> Result<InclusiveSums<'n>, AllocError>
         requires key { costs.key ≡ Function }
-        requires small { AreBelow (total_of costs.sums + total_of self.sums) (self_cost + self.total) }
-        ensures sums { IfOk result (λ all. all.sums ≡ (fold with_row costs (rows_of self.sums)).sums) }
-        ensures total { IfOk result (λ all. all.total ≡ self_cost + self.total) }
+        requires small { AreBelow (total_of costs.sums + total_of self.now.sums) (self_cost + self.now.total) }
+        ensures sums { IfOk result (λ all. all.sums ≡ (fold with_row costs.entry (rows_of self.now.sums)).sums) }
+        ensures total { IfOk result (λ all. all.total ≡ self_cost + self.now.total) }
     {
-        let mut merged = costs;
-        add_sums(&mut merged, &self.merged)?;
+        let mut sums = costs;
+        add_sums(&mut sums, &self.merged)?;
         Ok(InclusiveSums {
-            alloc: self.alloc,
-            merged,
+            sums,
             total: self_cost + self.total,
         })
     }
+}
+
+/// What functions cost with all that they call, their names lent: contracts see what they see of `FrameSums`.
+#[derive(Drop)]
+pub struct InclusiveSums<'n> {
+    sums: LentSums<'n>,
+    total: u128,
+    ghost by_function: { sums.key ≡ Function },
+    ghost small: { total < 2 ^ 112 },
+}
+
+impl<'n> Model for InclusiveSums<'n> {
+    ghost use Rattle.report_texts.specs.Inclusive.{InclusiveCosts};
+
+    ghost Value = { InclusiveCosts };
+
+    ghost view = { λ a. record { sums = a.sums.sums; total = a.total } };
 }
 
 /// What functions cost with all that they call, the greatest cost first, and what all cost by
@@ -149,14 +170,14 @@ impl<'a> Model for InclusiveReport<'a> {
 }
 
 /// The inclusive costs of functions. Memory is the only refusal.
-pub fn inclusive<'a>(
+pub fn inclusive<'n>(
     alloc: Global,
-    sums: &'a InclusiveSums,
-) -> Result<InclusiveReport<'a>, AllocError>
+    sums: &InclusiveSums<'n>,
+) -> Result<InclusiveReport<'n>, AllocError>
     ensures { IfOk result (λ report. report ≡ inclusive_report sums.now) }
 {
-    let rows = ranked_rows(alloc, &sums.merged)?;
-    let _small = sums.merged.total();
+    let rows = ranked_rows(alloc, &sums.sums)?;
+    let _small = sums.sums.total();
     Ok(InclusiveReport {
         rows,
         total: sums.total,

@@ -22,6 +22,8 @@ mod key_reports;
 mod key_texts;
 // How long a text may be.
 mod lengths;
+// What rows with lent names sum to, by key (specs/Rows.antt).
+mod lent_sums;
 // Laws: what reports sum to, from the rows of runs to the records of their files.
 mod laws;
 // What is printed of a number.
@@ -32,7 +34,7 @@ mod pair_sums;
 mod pairs;
 // A part of a total in percent (report_texts/specs/Percents.antt).
 mod percents;
-// Places by names, lent and held (specs/Places.antt).
+// Places by names that are lent (specs/Rows.antt).
 mod places;
 // Rows in the order of a report (report_texts/specs/Ranking.antt).
 mod ranks;
@@ -46,7 +48,7 @@ mod verifying;
 pub use call_reports::{CallReport, CallSums, calls};
 pub use differences::{Difference, subtract};
 pub use frames::is_frame;
-pub use inclusives::{InclusiveReport, InclusiveSums, inclusive};
+pub use inclusives::{FrameSums, InclusiveReport, InclusiveSums, inclusive};
 pub use key_reports::{Report, by};
 pub use laws::{
     added_rows_sum_to_the_reports, callers_and_callees_sum_to_the_calls, calls_sum_to_the_records,
@@ -55,5 +57,6 @@ pub use laws::{
     inclusive_costs_sum_to_the_records, shown_and_rest_are_the_total, the_fewest_rows_are_shown,
 };
 pub use lengths::{check_length, whole_text};
+pub use lent_sums::LentSums;
 pub use report_texts::{CallSide, Cut};
 pub use verifying::{Verification, verify};

@@ -6,15 +6,16 @@ ghost use Rattle.report_texts.specs.Ranking.{ranked};
 ghost use Rattle.cost_rows.specs.Plain.{plain_cell};
 ghost use Rattle.cost_reports.specs.Rows.{given_sums, plain_row, plain_rows, shown_of, sum_of_row};
 
+use crate::lent_sums::LentSums;
 use crate::places::place_of_row;
 use crate::rows::Row;
-use cost_rows::{Cell, Merged};
+use cost_rows::Cell;
 use report_texts::Cut;
 use std::alloc::{AllocError, Global};
 use std::cmp::Reverse;
 
 /// A sum as a row.
-pub(crate) fn row_of<'a>(row: &Cell<&'a [u8]>) -> Row<'a>
+fn row_of<'a>(row: &Cell<&'a [u8]>) -> Row<'a>
     ensures { plain_row result ≡ sum_of_row (plain_cell row.now) }
 {
     Row {
@@ -34,13 +35,16 @@ fn rows_of<'a>(alloc: Global, sums: &[Cell<&'a [u8]>]) -> Result<Vec<Row<'a>>, A
     Ok(rows)
 }
 
-/// Merged sums as rows, in their order.
-fn merged_rows<'a>(alloc: Global, merged: &'a Merged) -> Result<Vec<Row<'a>>, AllocError>
-    ensures { IfOk result (λ rows. plain_rows rows.items ≡ merged.now.sums) }
+/// Sums by key as rows, in their order.
+fn key_rows<'n>(alloc: Global, sums: &LentSums<'n>) -> Result<Vec<Row<'n>>, AllocError>
+    ensures { IfOk result (λ rows. plain_rows rows.items ≡ sums.now.sums) }
 {
-    let mut rows = Vec::with_capacity(alloc, merged.len())?;
-    for row in merged.rows() {
-        rows.push(row_of(&row))?;
+    let mut rows = Vec::with_capacity(alloc, sums.len())?;
+    for (place, cost) in sums.iter() {
+        rows.push(Row {
+            cost: Reverse(*cost),
+            place: *place,
+        })?;
     }
     Ok(rows)
 }
@@ -52,12 +56,12 @@ fn rank(rows: &mut Vec<Row<'_>>)
     rows.sort_unstable();
 }
 
-/// Merged sums as rows, the greatest cost first, and equal costs in the order of their parts.
-pub(crate) fn ranked_rows<'a>(alloc: Global, merged: &'a Merged) -> Result<Vec<Row<'a>>, AllocError>
-    ensures order { IfOk result (λ rows. plain_rows rows.items ≡ ranked rank_cmp merged.now.sums) }
-    ensures total { IfOk result (λ rows. total_of (plain_rows rows.items) ≡ total_of merged.now.sums) }
+/// Sums by key as rows, the greatest cost first, and equal costs in the order of their parts.
+pub(crate) fn ranked_rows<'n>(alloc: Global, sums: &LentSums<'n>) -> Result<Vec<Row<'n>>, AllocError>
+    ensures order { IfOk result (λ rows. plain_rows rows.items ≡ ranked rank_cmp sums.now.sums) }
+    ensures total { IfOk result (λ rows. total_of (plain_rows rows.items) ≡ total_of sums.now.sums) }
 {
-    let mut rows = merged_rows(alloc, merged)?;
+    let mut rows = key_rows(alloc, sums)?;
     rank(&mut rows);
     Ok(rows)
 }

@@ -14,10 +14,11 @@ ghost use Rattle.number_sums.specs.Sums.{number_rows, numbers_told, numbers_tota
 use crate::part_sums::PartSums;
 use crate::parts::NumberPart;
 use crate::sums::NumberSums;
-use cost_rows::{Cell, Key, Merged};
+use cost_reports::LentSums;
+use cost_rows::{Cell, Key};
 use named_rows::held_name;
 use run_stores::{NameTable, StoreError};
-use std::alloc::{AllocError, Global};
+use std::alloc::Global;
 
 /// A sum as a row of event 0, with what a key tells of its part; other names are `???`, and other numbers 0.
 /// `Store` where a name is not held.
@@ -53,32 +54,21 @@ pub(crate) fn named_row<'n, N: NameTable>(
     })
 }
 
-/// What is left of some room behind the names of a row. No guarantee: it says how much memory the names of sums may
-/// take.
-fn room_behind(room: usize, row: &Cell<&[u8]>) -> Result<usize, AllocError> {
-    let places = row.object.len().saturating_add(row.file.len());
-    room.checked_sub(places.saturating_add(row.function.len()))
-        .ok_or(AllocError)
-}
-
 /// The sums by name.
-fn merge_named<N: NameTable>(
+fn merge_named<'n, N: NameTable>(
     alloc: Global,
-    names: &N,
+    names: &'n N,
     key: Key,
     sums: &PartSums,
-    most: usize,
-) -> Result<Merged, StoreError>
+) -> Result<LentSums<'n>, StoreError>
     requires small { numbers_total sums.now < 2 ^ 112 }
     ensures key { IfOk result (λ merged. merged.key ≡ key) }
     ensures sums { IfOk result (λ merged. merged ≡ merged_by (N.name_rows names.now) key sums.now) }
     ensures held { IfOk result (λ _. AllByRecursion (IsHeld (N.name_rows names.now)) (numbers_told key sums.now)) }
 {
-    let mut merged = Merged::new(alloc, key);
-    let mut room = most;
+    let mut merged = LentSums::new(alloc, key);
     for (part, cost) in sums.iter() {
         let row = named_row(names, key, part, cost)?;
-        room = room_behind(room, &row)?;
         merged.add(&row)?;
     }
     Ok(merged)
@@ -86,19 +76,17 @@ fn merge_named<N: NameTable>(
 
 impl NumberSums {
     /// The sums by name: the names that the key tells are looked up once for each sum, and may be some of all
-    /// names. Errors: `Memory`, also where the names of all sums have more than `most` bytes; and `Store` where a name is
-    /// not held.
-    pub fn named<N: NameTable>(
-        self,
+    /// names. Errors: `Memory`; and `Store` where a name is not held.
+    pub fn named<'n, N: NameTable>(
+        &self,
         alloc: Global,
-        names: &N,
-        most: usize,
-    ) -> Result<Merged, StoreError>
-        ensures key { IfOk result (λ merged. merged.key ≡ self.key) }
+        names: &'n N,
+    ) -> Result<LentSums<'n>, StoreError>
+        ensures key { IfOk result (λ merged. merged.key ≡ self.now.key) }
         ensures sums { IfOk result (λ merged. (all : List NameRow) → AreOf all (N.name_rows names.now)
-            → merged.sums ≡ sums_by self.key (map (named_cell all) (number_rows self.sums))) }
-        ensures held { IfOk result (λ _. AllByRecursion (IsHeld (N.name_rows names.now)) (numbers_told self.key self.sums)) }
+            → merged.sums ≡ sums_by self.now.key (map (named_cell all) (number_rows self.now.sums))) }
+        ensures held { IfOk result (λ _. AllByRecursion (IsHeld (N.name_rows names.now)) (numbers_told self.now.key self.now.sums)) }
     {
-        merge_named(alloc, names, self.key, &self.sums, most)
+        merge_named(alloc, names, self.key, &self.sums)
     }
 }

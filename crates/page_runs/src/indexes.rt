@@ -1,16 +1,16 @@
 // Whether the indexes of the small tables have the keys of their rows.
-ghost use Rattle.std.specs.Prelude.{◌≡◌, ◌++◌, ◌∷◌, [], ℕ, List, map, string_bytes, IfErr, IsPermutation, IsTrue, OnOk};
+ghost use Rattle.std.specs.Prelude.{◌≡◌, ◌++◌, ◌∷◌, [], map, IsTrue, OnOk};
 ghost use Rattle.sqlite_record.specs.Fields.{fields_left};
-ghost use Rattle.sqlite_store.specs.declared.catalog.Wanted.{Wanted};
-ghost use Rattle.sqlite_value.specs.Keys.{plain};
-ghost use Rattle.sqlite_value.specs.Order.{Row as Columns};
 ghost use Rattle.sqlite_value.specs.declared.value.Value.{Value};
 ghost use Rattle.sqlite_value.specs.declared.value.Value.TheVariants.{Blob, Text};
 ghost use Rattle.page_files.specs.Files.{IsFaithful, IsUsable, OnlyReads};
-ghost use Rattle.page_files.specs.Trees.{ShowsIndex, trees_of};
 ghost use Rattle.store_schema.specs.Tables.{number};
-ghost use Rattle.page_runs.specs.Indexed.{key_of};
+ghost use Rattle.page_runs.specs.Indexed.{AreDerivedIndexed, AreEventsIndexed, AreGroupsIndexed, AreIndexed, HasKeys};
 
+use crate::index_keys::{
+    coef_keys, derived_names, derived_places, digests, event_names, event_places, group_names,
+    member_keys,
+};
 use page_files::PageFile;
 use page_places::{StoreRoots, error_of_walk};
 use page_rows::EntrySink;
@@ -176,8 +176,7 @@ fn check_keys<D: Disk, K: Key + Ord + Drop>(
     root: u32,
     mut keys: Vec<K>,
 ) -> Result<(), StoreError>
-    ensures same { OnOk result (IsFaithful file.new → (wanted : List Wanted) (t : ℕ) → ShowsIndex wanted t plain root file.old
-        → IsPermutation (map K.columns keys.items) (map key_of (trees_of wanted file.old t))) }
+    ensures same { OnOk result (IsFaithful file.new → HasKeys file.old root (map K.columns keys.items)) }
     ensures reads { OnlyReads file.old file.new }
     ensures usable { OnOk result (IsUsable file.new) }
 {
@@ -200,25 +199,15 @@ fn check_events<D: Disk>(
     roots: &StoreRoots,
     lists: &RunLists,
 ) -> Result<(), StoreError>
+    ensures same { OnOk result (IsFaithful file.new → AreEventsIndexed roots.now lists.now file.old) }
     ensures reads { OnlyReads file.old file.new }
     ensures usable { OnOk result (IsUsable file.new) }
 {
-    let digests: Vec<&[u8]> = lists
-        .runs
-        .iter()
-        .map(|run| run.entry.digest.as_slice())
-        .collect(alloc)?;
+    let digests = digests(alloc, &lists.runs)?;
     check_keys(file, alloc, roots.run_digests, digests)?;
-    let events = lists.events.all();
-    let places: Vec<(u32, u32)> = events
-        .iter()
-        .map(|event| (event.run, event.place))
-        .collect(alloc)?;
+    let places = event_places(alloc, lists.events.all())?;
     check_keys(file, alloc, roots.event_places, places)?;
-    let names: Vec<(u32, &[u8])> = events
-        .iter()
-        .map(|event| (event.run, event.name.as_slice()))
-        .collect(alloc)?;
+    let names = event_names(alloc, lists.events.all())?;
     check_keys(file, alloc, roots.event_names, names)
 }
 
@@ -229,25 +218,15 @@ fn check_derived<D: Disk>(
     roots: &StoreRoots,
     lists: &RunLists,
 ) -> Result<(), StoreError>
+    ensures same { OnOk result (IsFaithful file.new → AreDerivedIndexed roots.now lists.now file.old) }
     ensures reads { OnlyReads file.old file.new }
     ensures usable { OnOk result (IsUsable file.new) }
 {
-    let derived = lists.derived.all();
-    let places: Vec<(u32, u32)> = derived
-        .iter()
-        .map(|event| (event.run, event.place))
-        .collect(alloc)?;
+    let places = derived_places(alloc, lists.derived.all())?;
     check_keys(file, alloc, roots.derived_places, places)?;
-    let names: Vec<(u32, &[u8])> = derived
-        .iter()
-        .map(|event| (event.run, event.name.as_slice()))
-        .collect(alloc)?;
+    let names = derived_names(alloc, lists.derived.all())?;
     check_keys(file, alloc, roots.derived_names, names)?;
-    let coefs = lists.coefs.all();
-    let keys: Vec<(u32, u32, u32)> = coefs
-        .iter()
-        .map(|coef| (coef.run, coef.place, coef.event))
-        .collect(alloc)?;
+    let keys = coef_keys(alloc, lists.coefs.all())?;
     check_keys(file, alloc, roots.coef_keys, keys)
 }
 
@@ -258,20 +237,13 @@ fn check_groups<D: Disk>(
     roots: &StoreRoots,
     lists: &RunLists,
 ) -> Result<(), StoreError>
+    ensures same { OnOk result (IsFaithful file.new → AreGroupsIndexed roots.now lists.now file.old) }
     ensures reads { OnlyReads file.old file.new }
     ensures usable { OnOk result (IsUsable file.new) }
 {
-    let names: Vec<&str> = lists
-        .groups
-        .iter()
-        .map(|group| group.name.as_str())
-        .collect(alloc)?;
+    let names = group_names(alloc, &lists.groups)?;
     check_keys(file, alloc, roots.group_names, names)?;
-    let members: Vec<(&str, u32)> = lists
-        .members
-        .iter()
-        .map(|member| (member.group.as_str(), member.run))
-        .collect(alloc)?;
+    let members = member_keys(alloc, &lists.members)?;
     check_keys(file, alloc, roots.member_keys, members)
 }
 
@@ -283,6 +255,7 @@ pub(crate) fn check_indexes<D: Disk>(
     roots: &StoreRoots,
     lists: &RunLists,
 ) -> Result<(), StoreError>
+    ensures same { OnOk result (IsFaithful file.new → AreIndexed roots.now lists.now file.old) }
     ensures reads { OnlyReads file.old file.new }
     ensures usable { OnOk result (IsUsable file.new) }
 {

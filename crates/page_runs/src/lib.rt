@@ -13,7 +13,9 @@ mod handed;
 mod heads;
 // Where the rows of runs began when they were last walked.
 mod hints;
-// Whether the indexes of the small tables have the keys of their rows (specs/Indexed.antt).
+// The keys of the rows of the small tables (specs/Indexed.antt).
+mod index_keys;
+// Whether the indexes of the small tables have these keys.
 mod indexes;
 // The cells of small runs, kept in memory (specs/Kept.antt).
 mod kept;

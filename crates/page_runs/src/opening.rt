@@ -5,6 +5,7 @@ ghost use Rattle.page_files.specs.Files.{IsFaithful, IsUsable, OnlyReads};
 ghost use Rattle.plain_tables.specs.Tables.{Tables};
 ghost use Rattle.run_lists.specs.Listed.{AreListed};
 ghost use Rattle.page_places.specs.Roots.{AreRoots, IsStoreOf};
+ghost use Rattle.page_runs.specs.Indexed.{AreIndexed};
 
 use crate::indexes::check_indexes;
 use crate::lists::read_lists;
@@ -17,13 +18,13 @@ use sqlite_disk::Disk;
 use std::alloc::Global;
 
 /// Finds the tables, and reads the small ones; and whether nothing of others stands on them. `Store` where they are not ours,
-/// rows are out of form, or the small ones do not agree with one another or with their indexes. That the indexes are looked
-/// at, no clause says; `indexes::check_keys` says what each look finds.
+/// rows are out of form, or the small ones do not agree with one another or with their indexes.
 fn read_store<D: Disk>(
     file: &mut PageFile<D>,
     alloc: Global,
 ) -> Result<(StoreRoots, RunLists, bool), StoreError>
     ensures read { IsFaithful file.new → (t : Tables) (db : Trees) (known : List ℕ) → IsStoreOf file.old t db known → IfOk result (λ r. AreRoots known r.0 × AreListed t r.1) }
+    ensures indexed { IfOk result (λ r. IsFaithful file.new → AreIndexed r.0 r.1 file.old) }
     ensures usable { OnOk result (IsUsable file.new) }
     ensures reads { OnlyReads file.old file.new }
 {
@@ -41,6 +42,7 @@ pub(crate) fn open_store<D: Disk + Drop>(
     mut file: PageFile<D>,
 ) -> Result<(PageFile<D>, StoreRoots, RunLists, bool), StoreError>
     ensures opened { IfOk result (λ r. IsFaithful r.0 → (t : Tables) (db : Trees) (known : List ℕ) → IsStoreOf file t db known → AreRoots known r.1 × AreListed t r.2) }
+    ensures indexed { IfOk result (λ r. IsFaithful r.0 → AreIndexed r.1 r.2 file) }
     ensures usable { IfOk result (λ r. IsUsable r.0) }
     ensures reads { IfOk result (λ r. OnlyReads file r.0) }
 {

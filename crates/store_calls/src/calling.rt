@@ -72,7 +72,7 @@ fn is_known<S: RunStore>(
 /// The text of what the calls of a function sum to.
 fn text_of_sums(
     alloc: Global,
-    sums: &CallSums,
+    sums: &CallSums<'_>,
     event: &[u8],
     most: usize,
 ) -> Result<SharedText, AllocError>
@@ -97,7 +97,7 @@ fn text_of_calls<S: RunStore>(
 {
     let numbers = numbers_of(alloc, &calls.rows)?;
     let names = store.names_among(alloc, &numbers)?;
-    let sums = sums_named(alloc, &names, *asked, calls, most)?;
+    let sums = sums_named(alloc, &names, *asked, calls)?;
     let text = text_of_sums(alloc, &sums, event, most)?;
     Ok(text)
 }

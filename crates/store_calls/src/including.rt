@@ -123,7 +123,7 @@ fn names_of_parts<S: RunStore>(
 /// The text of some inclusive costs.
 fn text_of_sums(
     alloc: Global,
-    sums: &InclusiveSums,
+    sums: &InclusiveSums<'_>,
     event: &[u8],
     most: usize,
 ) -> Result<SharedText, AllocError>
@@ -136,14 +136,14 @@ fn text_of_sums(
 /// The text of what runs add up to, of which the names are given.
 fn text_of_parts<N: NameTable>(
     alloc: Global,
-    parts: InclusiveParts,
+    parts: &InclusiveParts,
     names: &N,
     event: &[u8],
     most: usize,
 ) -> Result<SharedText, StoreError>
-    ensures { IfOk result (λ text. IsTextNamed (N.name_rows names.now) (sums_in parts) event.now text) }
+    ensures { IfOk result (λ text. IsTextNamed (N.name_rows names.now) (sums_in parts.now) event.now text) }
 {
-    let sums = parts.named(alloc, names, most)?;
+    let sums = parts.named(alloc, names)?;
     Ok(text_of_sums(alloc, &sums, event, most)?)
 }
 
@@ -161,7 +161,7 @@ fn inclusive_text<S: RunStore>(
     let adder = InclusiveOfRuns { alloc };
     let parts = fold_runs(store, &adder, runs, InclusiveParts::new(alloc))?;
     let names = names_of_parts(store, alloc, &parts)?;
-    text_of_parts(alloc, parts, &names, event, most)
+    text_of_parts(alloc, &parts, &names, event, most)
 }
 
 /// Answers what functions cost with all that they call, over the runs of a selection: a text, or the

@@ -3,7 +3,7 @@ ghost use Rattle.std.specs.Prelude.{◌≡◌, ◌≤◌};
 ghost use Rattle.cost_rows.specs.declared.keys.Key.TheVariants.{Function};
 ghost use Rattle.number_sums.specs.Sums.{numbers_total};
 
-use cost_reports::InclusiveSums;
+use cost_reports::FrameSums;
 use number_sums::NumberSums;
 
 /// What functions cost with all that they call, in two parts: the rows of Callgrind runs have the numbers of names,
@@ -17,7 +17,7 @@ pub(crate) struct InclusiveParts {
     /// What the self costs among them sum to.
     pub self_cost: u128,
     /// What functions cost in stacks.
-    pub stacks: InclusiveSums,
+    pub stacks: FrameSums,
     ghost by_function: { numbers.key ≡ Function },
     ghost by_called: { called.key ≡ Function },
     ghost within: { numbers_total called.sums ≤ numbers_total numbers.sums },

@@ -61,18 +61,17 @@ fn named_call<'n, N: NameTable>(
 }
 
 /// The calls that were kept, added up by the names of the functions on their other side: the names may be some of
-/// all names. Errors: `Memory`, also where the names have more than `most` bytes; and `Store` where a name is not held.
+/// all names. Errors: `Memory`; and `Store` where a name is not held.
 pub(crate) fn sums_named<'n, N: NameTable>(
     alloc: Global,
     names: &'n N,
     asked: AskedFunction<'n>,
     calls: &KeptCalls,
-    most: usize,
-) -> Result<CallSums, StoreError>
+) -> Result<CallSums<'n>, StoreError>
     ensures { IfOk result (λ sums. (all : List NameRow) → AreOf all (N.name_rows names.now)
         → sums ≡ sums_named all (spot_asked asked.entry) (kept_of calls.now)) }
 {
-    let mut sums = CallSums::new(alloc, calls.side, asked.object, asked.name, most)?;
+    let mut sums = CallSums::new(alloc, calls.side, asked.object, asked.name);
     for call in &calls.rows {
         let row = named_call(names, calls.side, asked, call)?;
         sums.add(&row)?;

@@ -13,7 +13,7 @@ ghost use Rattle.store_calls.specs.InclusiveParts.{costs_named, none_added, sums
 
 use crate::inclusive_parts::InclusiveParts;
 use cg_text::ListVec;
-use cost_reports::InclusiveSums;
+use cost_reports::{FrameSums, InclusiveSums};
 use cost_rows::{CallEdge, Cell, Key, StackCount};
 use number_sums::NumberSums;
 use run_stores::{NameTable, StoreError};
@@ -29,7 +29,7 @@ impl InclusiveParts {
             numbers: NumberSums::new(alloc, Key::Function),
             called: NumberSums::new(alloc, Key::Function),
             self_cost: 0,
-            stacks: InclusiveSums::new(alloc),
+            stacks: FrameSums::new(alloc),
         }
     }
 
@@ -84,28 +84,22 @@ impl InclusiveParts {
     }
 
     /// Both parts as one, by name: the names are looked up once for each sum, and may be some of all names.
-    /// Errors: `Memory`, also where the names of the sums have more than `most` bytes; and `Store` where a name is not
-    /// held, or where both together pass the bound of sums.
-    pub fn named<N: NameTable>(
-        self,
+    /// Errors: `Memory`; and `Store` where a name is not held, or where both together pass the bound of sums.
+    pub fn named<'n, N: NameTable>(
+        &'n self,
         alloc: Global,
-        names: &N,
-        most: usize,
-    ) -> Result<InclusiveSums, StoreError>
-        ensures held { IfOk result (λ _. AllByRecursion (IsHeld (N.name_rows names.now)) (numbers_told Function self.numbers.sums)) }
-        ensures sums { IfOk result (λ sums. (all : List NameRow) → AreOf all (N.name_rows names.now) → sums ≡ costs_named all (sums_in self)) }
+        names: &'n N,
+    ) -> Result<InclusiveSums<'n>, StoreError>
+        ensures held { IfOk result (λ _. AllByRecursion (IsHeld (N.name_rows names.now)) (numbers_told Function self.now.numbers.sums)) }
+        ensures sums { IfOk result (λ sums. (all : List NameRow) → AreOf all (N.name_rows names.now)
+            → sums ≡ costs_named all (sums_in self.now)) }
     {
-        let InclusiveParts {
-            numbers,
-            self_cost,
-            stacks,
-            ..
-        } = self;
-        let costs = numbers.named(alloc, names, most)?;
-        if !is_within(costs.total(), stacks.sum()) || !is_within(self_cost, stacks.total()) {
+        let costs = self.numbers.named(alloc, names)?;
+        let sum = self.stacks.sum();
+        if !is_within(costs.total(), sum) || !is_within(self.self_cost, self.stacks.total()) {
             return Err(StoreError::Store);
         }
-        let all = stacks.with_costs(costs, self_cost)?;
+        let all = self.stacks.with_costs(costs, self.self_cost)?;
         Ok(all)
     }
 }

@@ -12,8 +12,8 @@ ghost use Rattle.store_reports.specs.Compared.{AnswersDifference, AreBaselineIn,
 
 use crate::merging::number_runs;
 use cg_text::ListVec;
-use cost_reports::subtract;
-use cost_rows::{Key, Merged};
+use cost_reports::{LentSums, subtract};
+use cost_rows::Key;
 use histories::{Answer, Refusal, Selection};
 use number_sums::NumberSums;
 use run_stores::{NameTable, RunStore, StoreError};
@@ -56,10 +56,10 @@ fn compared_runs<S: RunStore>(
 }
 
 /// The text of what some sums are less others.
-fn text_of_sums(
+fn text_of_sums<'n>(
     alloc: Global,
-    first: &Merged,
-    second: &Merged,
+    first: &LentSums<'n>,
+    second: &LentSums<'n>,
     event: &[u8],
     most: usize,
 ) -> Result<SharedText, AllocError>
@@ -73,16 +73,16 @@ fn text_of_sums(
 fn text_of_numbers<N: NameTable>(
     alloc: Global,
     names: &N,
-    firsts: NumberSums,
-    seconds: NumberSums,
+    firsts: &NumberSums,
+    seconds: &NumberSums,
     event: &[u8],
     most: usize,
 ) -> Result<SharedText, StoreError>
     ensures { IfOk result (λ text. (all : List NameRow) → AreOf all (N.name_rows names.now)
-        → text ≡ difference_text event.now (difference_of firsts.key (named_sums all firsts) (named_sums all seconds))) }
+        → text ≡ difference_text event.now (difference_of firsts.now.key (named_sums all firsts.now) (named_sums all seconds.now))) }
 {
-    let first = firsts.named(alloc, names, most)?;
-    let second = seconds.named(alloc, names, most)?;
+    let first = firsts.named(alloc, names)?;
+    let second = seconds.named(alloc, names)?;
     let text = text_of_sums(alloc, &first, &second, event, most)?;
     Ok(text)
 }
@@ -118,7 +118,7 @@ fn difference_text<S: RunStore>(
     let second = number_runs(store, alloc, seconds, key)?;
     let numbers = numbers_of_both(alloc, &first, &second)?;
     let names = store.names_among(alloc, &numbers)?;
-    text_of_numbers(alloc, &names, first, second, event, most)
+    text_of_numbers(alloc, &names, &first, &second, event, most)
 }
 
 /// The answer over the runs of some numbers and those of others.

@@ -11,7 +11,7 @@ loop-row-init c =
     let rows : c.into_iter-row-iterator.result ≡ rows_of others = search rules in
     let total = ap (sum_by (λ (r : Cell (List ℕ)). r.cost)) rows ∙ sym (total_by_key Function (rows_of others)) ∙ total_of_rows Function others in
     record {
-      sums = ap (fold with_row c.args.merged.now) rows;
+      sums = ap (fold with_row c.args.sums.now) rows;
       key = refl;
       small = omega (arith, total, c.requires.small);
     }

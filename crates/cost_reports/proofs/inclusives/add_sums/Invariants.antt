@@ -6,7 +6,7 @@ use Rattle.cost_reports.proofs.inclusives.add_sums.Given as goal
 -- what is held with the sums to come is all
 abbrev pub invariant-loop-row : goal.invariant-loop-row
 invariant-loop-row l = record {
-  sums : fold with_row l.merged l.row-iterator ≡ fold with_row l.initial.merged (rows_of l.others.sums);
-  key : l.merged.key ≡ l.initial.merged.key;
-  small : total_of l.merged.sums + sum_by (λ (r : Cell (List ℕ)). r.cost) l.row-iterator < 2 ^ 112;
+  sums : fold with_row l.sums l.row-iterator ≡ fold with_row l.initial.sums (rows_of l.others.sums);
+  key : l.sums.key ≡ l.initial.sums.key;
+  small : total_of l.sums.sums + sum_by (λ (r : Cell (List ℕ)). r.cost) l.row-iterator < 2 ^ 112;
 }

@@ -5,36 +5,36 @@ use Rattle.cost_rows.proofs.KeysLemmas.{named_cmp-total}
 use Rattle.cost_rows.proofs.SeenLemmas.{key_cmp, seen-lookup}
 use Rattle.report_texts.specs.Pairs.{pairs_added, pair_total}
 use Rattle.report_texts.specs.declared.pairs.Pair.{Pair}
-use Rattle.cost_reports.specs.Places.{held_place, held_pairs}
+use Rattle.cost_reports.specs.Rows.{lent_place, lent_pairs}
 use Rattle.cost_reports.proofs.PairLemmas.{pair_least, total_with}
 use Rattle.cost_reports.proofs.WrittenLemmas.{seen-written, seen-new}
 use Rattle.cost_reports.proofs.pair_sums.merge_pair.Goals as goal
 
 pub returns-in-Some-clause-ok : goal.returns-in-Some-clause-ok
 returns-in-Some-clause-ok c =
-    seen-written held_place named_cmp named_cmp-total pairs_added c.args.sums.now (c.get_mut.follows.lender c.plus.result) (held_place c.args.place.now) c.in-Some.sum.now c.plus.result c.args.pair
+    seen-written lent_place named_cmp named_cmp-total pairs_added c.args.sums.now (c.get_mut.follows.lender c.plus.result) (lent_place c.args.place) c.in-Some.sum.now c.plus.result c.args.pair
     (c.get_mut.follows.holds c.plus.result) c.get_mut.ensures.ordered c.in-Some.ensures.value c.plus.ensures
 
 pub returns-in_ok-insert-in-None-clause-ok : goal.returns-in_ok-insert-in-None-clause-ok
 returns-in_ok-insert-in-None-clause-ok c =
-    seen-new held_place named_cmp named_cmp-total pairs_added c.args.sums.now c.insert.new.self (held_place c.args.place.now) c.in_ok-place-in-None.place c.args.pair c.args.pair
-    (c.in_ok-insert-in-None.ensures.entries ∙ ap (λ m. insert_entry (key_cmp held_place named_cmp) m.entries c.in_ok-place-in-None.place c.args.pair) c.get_mut.follows.holds-at-none)
-    c.in-None.ensures.value c.in_ok-place-in-None.ensures refl
+    seen-new lent_place named_cmp named_cmp-total pairs_added c.args.sums.now c.insert.new.self (lent_place c.args.place) c.args.place c.args.pair c.args.pair
+    (c.in_ok-insert-in-None.ensures.entries ∙ ap (λ m. insert_entry (key_cmp lent_place named_cmp) m.entries c.args.place c.args.pair) c.get_mut.follows.holds-at-none)
+    c.in-None.ensures.value refl refl
 
 pub plus-requires-clause-first : goal.plus-requires-clause-first
 plus-requires-clause-first c =
-    let found = c.in-Some.ensures.value ∙ seen-lookup held_place named_cmp c.args.sums.now.entries (held_place c.args.place.now) in
-    let least = pair_least (λ (p : Pair). p.first) (is_at (named_cmp (held_place c.args.place.now))) (held_pairs c.args.sums.now.entries) c.in-Some.sum.now found in
+    let found = c.in-Some.ensures.value ∙ seen-lookup lent_place named_cmp c.args.sums.now.entries (lent_place c.args.place) in
+    let least = pair_least (λ (p : Pair). p.first) (is_at (named_cmp (lent_place c.args.place))) (lent_pairs c.args.sums.now.entries) c.in-Some.sum.now found in
     omega (arith, least, c.requires.first)
 
 pub plus-requires-clause-second : goal.plus-requires-clause-second
 plus-requires-clause-second c =
-    let found = c.in-Some.ensures.value ∙ seen-lookup held_place named_cmp c.args.sums.now.entries (held_place c.args.place.now) in
-    let least = pair_least (λ (p : Pair). p.second) (is_at (named_cmp (held_place c.args.place.now))) (held_pairs c.args.sums.now.entries) c.in-Some.sum.now found in
+    let found = c.in-Some.ensures.value ∙ seen-lookup lent_place named_cmp c.args.sums.now.entries (lent_place c.args.place) in
+    let least = pair_least (λ (p : Pair). p.second) (is_at (named_cmp (lent_place c.args.place))) (lent_pairs c.args.sums.now.entries) c.in-Some.sum.now found in
     omega (arith, least, c.requires.second)
 
 pub returns-in-Some-clause-total : goal.returns-in-Some-clause-total
-returns-in-Some-clause-total c = ap pair_total (returns-in-Some-clause-ok c) ∙ total_with (held_place c.args.place.now) c.args.pair (held_pairs c.args.sums.now.entries)
+returns-in-Some-clause-total c = ap pair_total (returns-in-Some-clause-ok c) ∙ total_with (lent_place c.args.place) c.args.pair (lent_pairs c.args.sums.now.entries)
 
 pub returns-in_ok-insert-in-None-clause-total : goal.returns-in_ok-insert-in-None-clause-total
-returns-in_ok-insert-in-None-clause-total c = ap pair_total (returns-in_ok-insert-in-None-clause-ok c) ∙ total_with (held_place c.args.place.now) c.args.pair (held_pairs c.args.sums.now.entries)
+returns-in_ok-insert-in-None-clause-total c = ap pair_total (returns-in_ok-insert-in-None-clause-ok c) ∙ total_with (lent_place c.args.place) c.args.pair (lent_pairs c.args.sums.now.entries)

@@ -1,5 +1,6 @@
 use Rattle.page_runs.proofs.Chains.{◌⊳◌}
 use Rattle.page_places.proofs.Rooting.{store_after}
+use Rattle.page_runs.proofs.Indexed.{indexed_before}
 use Rattle.page_runs.proofs.Rooting.{tables_show}
 use Rattle.page_runs.proofs.opening.read_store.Goals as goal
 
@@ -23,3 +24,7 @@ returns-in_err-lists-clause-reads g c = c.find_tables.ensures.reads ⊳ c.find_r
 
 pub returns-in_err-check_indexes-clause-reads : goal.returns-in_err-check_indexes-clause-reads
 returns-in_err-check_indexes-clause-reads g c = c.find_tables.ensures.reads ⊳ c.find_roots.ensures.reads ⊳ c.read_lists.ensures.reads ⊳ c.check_indexes.ensures.reads
+
+pub returns-clause-indexed : goal.returns-clause-indexed
+returns-clause-indexed g c faithful =
+    indexed_before _ _ (c.find_tables.ensures.reads ⊳ c.find_roots.ensures.reads ⊳ c.read_lists.ensures.reads) (c.in_ok-check_indexes.ensures.same faithful)

@@ -23,7 +23,7 @@ returns-clause-sums g c =
     if_both c.merge_named.result
     (λ merged. merged ≡ fold with_row (record { key = key; sums = [] }) (map (named_cell some) (number_rows sums)))
     (λ _. AllByRecursion (IsHeld some) (numbers_told key sums))
-    (λ merged. (all : List NameRow) → AreOf all some → merged.sums ≡ sums_by c.args.self.key (map (named_cell all) (number_rows c.args.self.sums)))
+    (λ merged. (all : List NameRow) → AreOf all some → merged.sums ≡ sums_by c.args.self.now.key (map (named_cell all) (number_rows c.args.self.now.sums)))
     (λ merged is held all of.
     ap (λ (s : Sums). s.sums) is
     ∙ merged_by_all all some of key sums held

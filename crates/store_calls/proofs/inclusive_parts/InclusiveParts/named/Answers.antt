@@ -9,11 +9,11 @@ use Rattle.store_calls.proofs.inclusive_parts.InclusiveParts.named.Goals as goal
 
 pub returns-clause-held : goal.returns-clause-held
 returns-clause-held g c =
-    subst (λ key. AllByRecursion (IsHeld (g.N.NameTable.name_rows c.args.names.now)) (numbers_told key c.args.self.numbers.sums)) c.args.self.by_function c.in_ok-costs.ensures.held
+    subst (λ key. AllByRecursion (IsHeld (g.N.NameTable.name_rows c.args.names.now)) (numbers_told key c.args.self.now.numbers.sums)) c.args.self.now.by_function c.in_ok-costs.ensures.held
 
 pub returns-clause-sums : goal.returns-clause-sums
 returns-clause-sums g c = λ names of.
-    let parts = c.args.self in
+    let parts = c.args.self.now in
     let costs = c.in_ok-costs.ensures in
     let key = costs.key ∙ parts.by_function in
     let sums = costs.sums names of ∙ ap (λ key. sums_by key (map (named_cell names) (number_rows parts.numbers.sums))) parts.by_function in

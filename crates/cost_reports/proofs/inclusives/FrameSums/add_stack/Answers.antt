@@ -2,7 +2,7 @@ use Rattle.std.proofs.Common.{◌≡◌, ap, arith}
 use Rattle.cost_rows.specs.KeySums.{total_of}
 use Rattle.report_texts.specs.Inclusive.{InclusiveCosts, names_costs}
 use Rattle.cost_reports.proofs.FrameLemmas.{total_in}
-use Rattle.cost_reports.proofs.inclusives.InclusiveSums.add_stack.Goals as goal
+use Rattle.cost_reports.proofs.inclusives.FrameSums.add_stack.Goals as goal
 
 pub add_functions-requires : goal.add_functions-requires
 add_functions-requires c =
