@@ -42,12 +42,7 @@ fn is_function(place: &LentPlace<'_>, object: &[u8], function: &[u8]) -> bool
 
 impl<'n> CallSums<'n> {
     /// Of the calls to a function, or from it; no row was added. Takes no memory.
-    pub fn new(
-        alloc: Global,
-        side: CallSide,
-        object: &'n [u8],
-        function: &'n [u8],
-    ) -> CallSums<'n>
+    pub fn new(alloc: Global, side: CallSide, object: &'n [u8], function: &'n [u8]) -> CallSums<'n>
         ensures { result ≡ record { side = side; function = function_spot object.now function.now; sums = [] } }
     {
         CallSums {

@@ -57,7 +57,10 @@ fn rank(rows: &mut Vec<Row<'_>>)
 }
 
 /// Sums by key as rows, the greatest cost first, and equal costs in the order of their parts.
-pub(crate) fn ranked_rows<'n>(alloc: Global, sums: &LentSums<'n>) -> Result<Vec<Row<'n>>, AllocError>
+pub(crate) fn ranked_rows<'n>(
+    alloc: Global,
+    sums: &LentSums<'n>,
+) -> Result<Vec<Row<'n>>, AllocError>
     ensures order { IfOk result (λ rows. plain_rows rows.items ≡ ranked rank_cmp sums.now.sums) }
     ensures total { IfOk result (λ rows. total_of (plain_rows rows.items) ≡ total_of sums.now.sums) }
 {
