@@ -6,6 +6,7 @@ use Rattle.std.specs.List.{AllByRecursion}
 use Rattle.std.specs.List.Sorted.{IsStrictlySortedBy}
 use Rattle.std.specs.Map.{lookup, keys_of, values_of}
 use Rattle.std.specs.Ordering.{nat_cmp, ordering_then}
+use Rattle.std.specs.Rc.{rc_slice_items}
 use Rattle.std.specs.declared.vec.Vec.{Vec}
 use Rattle.csv.specs.Writing.{default_writer, fields_written, has_written, text_written, writer_setup}
 use Rattle.csv.specs.declared.writer.Writer.{Writer}
@@ -83,10 +84,10 @@ pub record AreSlots (slots : List (PlaceNames × ℕ)) (count : ℕ) : Type 0 wh
 -- ---- as the code holds them
 
 abbrev pub held_names : HeldNames → PlaceNames
-held_names n = record { object = n.object.items; file = n.file.items; function = n.function.items }
+held_names n = record { object = rc_slice_items n.object; file = rc_slice_items n.file; function = rc_slice_items n.function }
 
 abbrev pub held_line : HeldLine → LineEvent
-held_line l = record { line = l.line; event = l.event.items }
+held_line l = record { line = l.line; event = rc_slice_items l.event }
 
 abbrev pub held_lines : List (HeldLine × ℕ) → List (LineEvent × ℕ)
 held_lines = seen held_line

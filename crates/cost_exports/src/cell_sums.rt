@@ -7,48 +7,53 @@ ghost use Rattle.cost_exports.specs.Views.{held_names, names_of_row, slot_of, su
 
 use crate::cells::{HeldLine, HeldNames};
 use crate::places::Places;
+use crate::shared_names::SharedNames;
 use cost_rows::Cell;
 use std::alloc::{AllocError, Global};
 use std::marker::Model;
+use std::rc::RcSlice;
 
 /// The slot of a row's names. Unless they are those of the row before, whose slot is known, it is searched
 /// for. The sums stay as they are.
 fn slot_of_row(
     alloc: Global,
-    names: &mut HeldNames,
-    recent: &mut Option<usize>,
+    shared: &mut SharedNames,
+    recent: &mut Option<(HeldNames, usize)>,
     places: &mut Places,
     row: &Cell<&[u8]>,
 ) -> Result<usize, AllocError>
-    requires recent { IfSome recent.old (λ slot. slot_of (held_names names.old) places.old.slots ≡ Some slot) }
-    ensures recent { IfSome recent.new (λ slot. slot_of (held_names names.new) places.new.slots ≡ Some slot) }
+    requires recent { IfSome recent.old (λ r. slot_of (held_names r.0) places.old.slots ≡ Some r.1) }
+    ensures recent { IfSome recent.new (λ r. slot_of (held_names r.0) places.new.slots ≡ Some r.1) }
     ensures slot { IfOk result (λ slot. slot_of (names_of_row (plain_cell row.now)) places.new.slots ≡ Some slot) }
     ensures sums { sums_in places.new ≡ sums_in places.old }
 {
-    if let Some(slot) = *recent {
-        if names.are_of(row) {
-            return Ok(slot);
+    let before = match &*recent {
+        Some((names, slot)) => {
+            if names.are_of(row) {
+                return Ok(*slot);
+            }
+            Some(names)
         }
-    }
+        None => None,
+    };
+    let names = shared.names_near(alloc, before, row)?;
     *recent = None;
-    names.set(row)?;
-    let slot = places.slot(alloc, names)?;
-    *recent = Some(slot);
+    let slot = places.slot(alloc, &names)?;
+    *recent = Some((names, slot));
     Ok(slot)
 }
 
 /// What places cost by the names of events, added up cell by cell: contracts see a cost above 0 for each
-/// place and event, texts in the order of their bytes and lines by number. The names of a place are kept
-/// once, and under them a line and an event's name for each cost. Rows come by their places, so mostly with
-/// the names of the row before: these need no search.
+/// place and event, texts in the order of their bytes and lines by number. Each name is held once. Rows come by their
+/// places, so mostly with the names of the row before: these need no search.
 #[derive(Drop)]
 pub struct CellSums {
     alloc: Global,
-    /// The names of the row before.
-    names: HeldNames,
-    /// Their slot, once it is known.
-    recent: Option<usize>,
-    line: HeldLine,
+    shared: SharedNames,
+    /// The names of the row before, with their slot.
+    recent: Option<(HeldNames, usize)>,
+    /// The event of the row before.
+    event: Option<RcSlice<u8>>,
     places: Places,
     total: u128,
     ghost is_total: { total ≡ amount_of (sums_in places) },
@@ -64,21 +69,20 @@ impl Model for CellSums {
 
     ghost view = { λ a. sums_in a.places };
 
-    ghost invariant = { λ a. IfSome a.recent (λ slot. slot_of (held_names a.names) a.places.slots ≡ Some slot) };
+    ghost invariant = { λ a. IfSome a.recent (λ r. slot_of (held_names r.0) a.places.slots ≡ Some r.1) };
 }
 
 impl CellSums {
-    /// No cell was added. Once the names of places have more than `most` bytes, so has the text of the sums: then a cell
-    /// is refused as one that there is no memory for. Takes no memory.
-    pub fn new(alloc: Global, most: usize) -> CellSums
+    /// No cell was added. Takes no memory.
+    pub fn new(alloc: Global) -> CellSums
         ensures { result ≡ [] }
     {
         CellSums {
             alloc,
-            names: HeldNames::new(alloc),
+            shared: SharedNames::new(alloc),
             recent: None,
-            line: HeldLine::new(alloc),
-            places: Places::new(alloc, most),
+            event: None,
+            places: Places::new(alloc),
             total: 0,
         }
     }
@@ -103,13 +107,20 @@ impl CellSums {
         }
         let slot = slot_of_row(
             self.alloc,
-            &mut self.names,
+            &mut self.shared,
             &mut self.recent,
             &mut self.places,
             row,
         )?;
-        self.line.set(row.line, event)?;
-        self.places.add(self.alloc, slot, &self.line, row.cost)?;
+        let event = self
+            .shared
+            .share_near(self.alloc, self.event.as_ref(), event)?;
+        let line = HeldLine {
+            line: row.line,
+            event,
+        };
+        self.places.add(slot, &line, row.cost)?;
+        self.event = Some(line.event);
         self.total += row.cost;
         Ok(())
     }

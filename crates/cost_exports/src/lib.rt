@@ -27,6 +27,8 @@ mod line_sums;
 mod numbers;
 // The lines of places, found by the names of the place (specs/Views.antt).
 mod places;
+// Names that keys share.
+mod shared_names;
 // Stacks with their counts (report_texts/specs/Folded.antt).
 mod stack_sums;
 

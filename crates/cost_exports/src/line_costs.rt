@@ -37,12 +37,7 @@ impl LineCosts {
     }
 
     /// Adds a cost to that of a line and an event. A refusal leaves the costs as they were.
-    pub(crate) fn add(
-        &mut self,
-        alloc: Global,
-        line: &HeldLine,
-        cost: u128,
-    ) -> Result<(), AllocError>
+    pub(crate) fn add(&mut self, line: &HeldLine, cost: u128) -> Result<(), AllocError>
         requires small { amount_of self.old + cost < 2 ^ 128 }
         ensures ok { OnOk result (self.new ≡ merge line_cmp counts_added self.old (held_line line.now) cost) }
         ensures err { OnErr result (self.new ≡ self.old) }
@@ -50,7 +45,7 @@ impl LineCosts {
         match self.costs.get_mut(line) {
             Some(held) => *held += cost,
             None => {
-                let line = line.copy(alloc)?;
+                let line = line.share()?;
                 self.costs.insert(line, cost)?;
             }
         }

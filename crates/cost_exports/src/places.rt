@@ -20,8 +20,6 @@ use std::marker::Model;
 pub(crate) struct Places {
     slots: BTreeMap<HeldNames, usize>,
     lines: Vec<LineCosts>,
-    /// How many bytes more the names of places may have.
-    room: usize,
 }
 
 impl Model for Places {
@@ -37,7 +35,6 @@ impl Model for Places {
 
 /// Adds a cost to that of a line and an event, among the lines in a slot. A refusal leaves them as they were.
 fn add_in(
-    alloc: Global,
     lines: &mut [LineCosts],
     slot: usize,
     line: &HeldLine,
@@ -48,30 +45,23 @@ fn add_in(
     ensures ok { OnOk result (lines.new ≡ slice_set lines.old slot (merge line_cmp counts_added (slice_index_or lines.old slot []) (held_line line.now) cost)) }
     ensures err { OnErr result (lines.new ≡ lines.old) }
 {
-    lines[slot].add(alloc, line, cost)
+    lines[slot].add(line, cost)
 }
 
 impl Places {
-    /// There are no places; their names may have so many bytes. Takes no memory.
-    pub(crate) fn new(alloc: Global, room: usize) -> Places
+    /// There are no places. Takes no memory.
+    pub(crate) fn new(alloc: Global) -> Places
         ensures { sums_in result ≡ [] }
     {
         Places {
             slots: BTreeMap::new(alloc),
             lines: Vec::new(alloc),
-            room,
         }
     }
 
     /// Adds a cost to that of a line and an event of the names that have a slot. A refusal leaves the sums
     /// as they were.
-    pub(crate) fn add(
-        &mut self,
-        alloc: Global,
-        slot: usize,
-        line: &HeldLine,
-        cost: u128,
-    ) -> Result<(), AllocError>
+    pub(crate) fn add(&mut self, slot: usize, line: &HeldLine, cost: u128) -> Result<(), AllocError>
         requires known { (names : PlaceNames) × (slot_of names self.old.slots ≡ Some slot) }
         requires small { amount_of (sums_in self.old) + cost < 2 ^ 128 }
         ensures slots { self.new.slots ≡ self.old.slots }
@@ -79,7 +69,7 @@ impl Places {
             → OnOk result (sums_in self.new ≡ merge event_spot_cmp counts_added (sums_in self.old) (spot_with names (held_line line.now)) cost) }
         ensures err { OnErr result (sums_in self.new ≡ sums_in self.old) }
     {
-        add_in(alloc, self.lines.as_mut_slice(), slot, line, cost)
+        add_in(self.lines.as_mut_slice(), slot, line, cost)
     }
 
     /// Gives names that have none a slot, without lines. A refusal leaves the sums as they were.
@@ -88,7 +78,7 @@ impl Places {
         ensures slot { IfOk result (λ slot. slot_of (held_names names.now) self.new.slots ≡ Some slot) }
         ensures sums { sums_in self.new ≡ sums_in self.old }
     {
-        let names = names.copy(alloc)?;
+        let names = names.share()?;
         let slot = self.lines.len();
         self.lines.push(LineCosts::new(alloc))?;
         if let Err(refused) = self.slots.insert(names, slot) {
@@ -98,18 +88,6 @@ impl Places {
         Ok(slot)
     }
 
-    /// Takes the room for the names of a place.
-    fn take_room(&mut self, names: &HeldNames) -> Result<(), AllocError>
-        ensures { self.new ≡ self.old }
-    {
-        let bytes = names.bytes();
-        if bytes > self.room {
-            return Err(AllocError);
-        }
-        self.room -= bytes;
-        Ok(())
-    }
-
     /// The slot of some names; they get one if they have none. The sums stay as they are.
     pub(crate) fn slot(&mut self, alloc: Global, names: &HeldNames) -> Result<usize, AllocError>
         ensures slot { IfOk result (λ slot. slot_of (held_names names.now) self.new.slots ≡ Some slot) }
@@ -117,10 +95,7 @@ impl Places {
     {
         match self.find(names) {
             Some(slot) => Ok(slot),
-            None => {
-                self.take_room(names)?;
-                self.put(alloc, names)
-            }
+            None => self.put(alloc, names),
         }
     }
 

@@ -68,7 +68,6 @@ fn sums_of_runs<S: RunStore>(
     store: &mut S,
     alloc: Global,
     numbers: &[u32],
-    most: usize,
 ) -> Result<CellSums, StoreError>
     ensures told { Told S.StoreState result store.old store.new (λ t sums. AreSums t numbers.now sums) }
     ensures asks { AsksIfOpen S.StoreState (is_ok result) store.old store.new }
@@ -78,18 +77,17 @@ fn sums_of_runs<S: RunStore>(
         alloc,
         names: &names,
     };
-    fold_runs(store, &cells, numbers, CellSums::new(alloc, most))
+    fold_runs(store, &cells, numbers, CellSums::new(alloc))
 }
 
 /// The self costs above 0 by object, file, function, line and event, over the runs of a selection, whose text
 /// is the answer; or the refusal of a run or a group that is not held. Errors: `Memory`; and `Store` for a
 /// call of the database that fails, for rows out of form and for sums of 2^112 or more, which no files that
-/// are held sum to. `Memory` also where the text would have more than `most` bytes for its names alone.
+/// are held sum to.
 pub fn csv_sums<S: RunStore>(
     store: &mut S,
     alloc: Global,
     selection: &Selection,
-    most: usize,
 ) -> Result<Result<CellSums, Refusal>, StoreError>
     ensures { AnswersAsked S.StoreState (λ t. IsCsv t selection.now) (Csv selection.now) (csv_asked result) store.old store.new }
 {
@@ -97,7 +95,7 @@ pub fn csv_sums<S: RunStore>(
         Ok(numbers) => numbers,
         Err(refusal) => return Ok(Err(refusal)),
     };
-    let sums = sums_of_runs(store, alloc, numbers.as_slice(), most)?;
+    let sums = sums_of_runs(store, alloc, numbers.as_slice())?;
     Ok(Ok(sums))
 }
 
@@ -111,7 +109,7 @@ pub fn csv_answer<S: RunStore>(
 ) -> Result<Answer, StoreError>
     ensures { AnswersAsked S.StoreState (λ t. IsCsv t selection.now) (Csv selection.now) result store.old store.new }
 {
-    match csv_sums(store, alloc, selection, most)? {
+    match csv_sums(store, alloc, selection)? {
         Ok(sums) => {
             let text = csv_text(alloc, most, &sums)?;
             Ok(Answer::Text(SharedText::from_list(alloc, text)))

@@ -168,14 +168,13 @@ pub(crate) fn annotate_in<S: RunStore, R: Source>(
 pub(crate) fn csv_in<S: RunStore>(
     store: &mut S,
     alloc: Global,
-    most: usize,
     selection: &Selection,
 ) -> Result<CellSums, Answer>
     ensures answered { (answer : Answer) → IsGivenFor answer result
         → (limits : _) → IsFaithful S.StoreState store.new → Answers S.StoreState limits (Ask (Csv selection.now)) answer store.old store.new }
     ensures found { (answer : Answer) → IsGivenFor answer result → Tells S.StoreState store.old store.new (λ t. OrFailed (AnswersIn (Csv selection.now) t) answer) }
 {
-    match csv_sums(store, alloc, selection, most) {
+    match csv_sums(store, alloc, selection) {
         Ok(Ok(sums)) => Ok(sums),
         Ok(Err(refusal)) => Err(Answer::Refused(refusal)),
         Err(failure) => Err(answer_of(Err(failure))),

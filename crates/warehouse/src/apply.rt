@@ -80,7 +80,7 @@ impl<S: RunStore> Warehouse<S> {
         ensures found { (answer : Answer) → IsGivenFor answer result
             → Tells S.StoreState self.old.store self.new.store (λ t. OrFailed (AnswersIn (Csv selection.now) t) answer) }
     {
-        csv_in(&mut self.store, alloc, self.most, selection)
+        csv_in(&mut self.store, alloc, selection)
     }
 
     /// Does what a command says, and answers it. A refused command changes nothing. Over tables that
