@@ -124,21 +124,7 @@ def cases_of_bisection(tried):
         tried.expect(f"skipped: {words}", ran.status, 125)
 
 
-def cases_of_the_installation(tried):
-    """The Makefile installs each script and each example, with the rights that it has here."""
-    with open(os.path.join(TOP, "Makefile"), encoding="utf-8") as file:
-        listed = re.findall(r"(\d+):(share/(?:scripts|examples)/\S+):share/profhouse/(\S+)", file.read())
-    wanted = []
-    for folder, place in (("scripts", ""), ("examples", "examples/")):
-        for name in os.listdir(os.path.join(TOP, "share", folder)):
-            path = f"share/{folder}/{name}"
-            if os.path.isfile(os.path.join(TOP, path)):
-                wanted.append(("755" if os.access(os.path.join(TOP, path), os.X_OK) else "644", path, place + name))
-    tried.expect("what is installed", sorted(listed), sorted(wanted))
-
-
 def cases(tried):
-    cases_of_the_installation(tried)
     prepare(tried)
     cases_of_both(tried)
     cases_of_bisection(tried)
