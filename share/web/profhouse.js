@@ -201,7 +201,8 @@ async function begin() {
 
 // The keys.
 
-const KEYS = [["1 to 9, 0", "a view"], ["h", "the history, of the function that is looked at or has the keyboard"], ["/", "the filter; Esc leaves it"], ["r", "folds the list of runs"], ["↑ ↓ Home End", "from row to row"], ["Enter", "open the row"],
+const KEYS = [["1 to 9, 0", "a view"], ["h", "the history, of the function that is looked at or has the keyboard"], ["/", "the filter; Esc leaves it"],
+  ["r", "fold the list of runs"], ["↑ ↓ Home End", "from row to row"], ["Enter", "open the row"],
   ["↑ ↓ ← →", "in a flame graph: from frame to frame"], ["Esc", "close the function, or the zoom"], ["Alt ←", "back"], ["?", "these keys"]];
 
 function help() {
@@ -222,7 +223,8 @@ function fold(isFolded) {
 }
 
 function moveRow(key) {
-  const box = document.activeElement.closest?.("#detail") ?? $("content"), rows = [...box.querySelectorAll("tr.leads")], at = rows.indexOf(document.activeElement.closest?.("tr"));
+  const focus = document.activeElement, box = focus.closest?.("#detail") ?? $("content");
+  const rows = [...box.querySelectorAll("tr.leads")], at = rows.indexOf(focus.closest?.("tr"));
   const next = { ArrowDown: at + 1, ArrowUp: Math.max(0, at - 1), Home: 0, End: rows.length - 1 }[key];
   rows[next]?.focus();
   return rows.length > 0;
