@@ -1,48 +1,38 @@
 # The commands of this repository. `make` lists them.
 
 PROGRAM = crates/profhouse/out/profhouse
+# Where it is installed, below DESTDIR. (Packagers give one of the first two, as prefix=/usr.)
 PREFIX = /usr/local
+prefix = $(PREFIX)
+bindir = $(prefix)/bin
+datadir = $(prefix)/share
+mandir = $(datadir)/man
+docdir = $(datadir)/doc/profhouse
 DESTDIR =
-INTO = $(DESTDIR)$(PREFIX)
-PAGE = $(wildcard share/web/*)
+# What takes the symbols away; STRIP=: leaves them, as for packages that have them apart.
+STRIP = strip
 SCRIPTS = folded fleet hostile http import reading reports rows run store total versions
 
-# What is installed: the mode, the file here, and its place below PREFIX.
-FILES = 755:$(PROGRAM):bin/profhouse \
-	644:share/man/man1/profhouse.1:share/man/man1/profhouse.1 \
-	644:share/completions/profhouse.bash:share/bash-completion/completions/profhouse \
-	644:share/completions/_profhouse:share/zsh/site-functions/_profhouse \
-	644:share/completions/profhouse.fish:share/fish/vendor_completions.d/profhouse.fish \
-	644:share/scripts/profhouse_http.py:share/profhouse/profhouse_http.py \
-	644:share/scripts/profhouse_costs.py:share/profhouse/profhouse_costs.py \
-	644:share/scripts/profhouse_names.py:share/profhouse/profhouse_names.py \
-	644:share/scripts/profhouse_script.py:share/profhouse/profhouse_script.py \
-	644:share/scripts/profhouse_tables.py:share/profhouse/profhouse_tables.py \
-	755:share/scripts/backup_store:share/profhouse/backup_store \
-	755:share/scripts/fail_if_costlier:share/profhouse/fail_if_costlier \
-	755:share/scripts/markdown_difference:share/profhouse/markdown_difference \
-	755:share/scripts/profhouse_history:share/profhouse/profhouse_history \
-	755:share/scripts/fleet_ask:share/profhouse/fleet_ask \
-	755:share/scripts/fleet_load:share/profhouse/fleet_load \
-	755:share/scripts/fleet_nodes:share/profhouse/fleet_nodes \
-	644:share/scripts/fleet_clickhouse.py:share/profhouse/fleet_clickhouse.py \
-	644:share/scripts/fleet_engines.py:share/profhouse/fleet_engines.py \
-	644:share/scripts/fleet_libpq.py:share/profhouse/fleet_libpq.py \
-	644:share/scripts/fleet_native.py:share/profhouse/fleet_native.py \
-	644:share/scripts/fleet_postgres.py:share/profhouse/fleet_postgres.py \
-	644:share/scripts/fleet_reports.py:share/profhouse/fleet_reports.py \
-	644:share/scripts/fleet_store.py:share/profhouse/fleet_store.py \
-	755:share/scripts/profhouse_remote:share/profhouse/profhouse_remote \
-	755:share/scripts/profhouse_web:share/profhouse/profhouse_web \
-	755:share/scripts/same_paths:share/profhouse/same_paths \
-	755:share/scripts/to_callgrind:share/profhouse/to_callgrind \
-	644:share/examples/github.yml:share/profhouse/examples/github.yml \
-	644:share/examples/gitlab.yml:share/profhouse/examples/gitlab.yml \
-	644:share/examples/profhouse-backup.service:share/profhouse/examples/profhouse-backup.service \
-	644:share/examples/profhouse-backup.timer:share/profhouse/examples/profhouse-backup.timer \
-	644:share/examples/profhouse.service:share/profhouse/examples/profhouse.service \
-	755:share/examples/bisect_run:share/profhouse/examples/bisect_run \
-	$(foreach it,$(PAGE),644:$(it):share/profhouse/web/$(notdir $(it)))
+# The scripts that are called. Each is on the path with profhouse- in front: profhouse_history is profhouse-history there.
+TOOLS = backup_store fail_if_costlier fleet_ask fleet_load fleet_nodes markdown_difference profhouse_history profhouse_remote \
+	profhouse_web same_paths to_callgrind
+COMMAND = profhouse-$(subst _,-,$(patsubst profhouse_%,%,$(1)))
+READ = README.md CHANGELOG.md SECURITY.md LICENSE-APACHE LICENSE-MIT $(wildcard docs/*.md docs/*.svg docs/pictures/*.png)
+START_FROM = github.yml gitlab.yml profhouse-backup.service profhouse-backup.timer profhouse.service
+
+# What is installed: the mode, the file here, and its place.
+FILES = 755:$(PROGRAM):$(bindir)/profhouse \
+	644:share/man/man1/profhouse.1:$(mandir)/man1/profhouse.1 \
+	644:share/completions/profhouse.bash:$(datadir)/bash-completion/completions/profhouse \
+	644:share/completions/_profhouse:$(datadir)/zsh/site-functions/_profhouse \
+	644:share/completions/profhouse.fish:$(datadir)/fish/vendor_completions.d/profhouse.fish \
+	$(foreach it,$(TOOLS),755:share/scripts/$(it):$(datadir)/profhouse/$(it)) \
+	$(foreach it,$(wildcard share/scripts/*.py),644:$(it):$(datadir)/profhouse/$(notdir $(it))) \
+	$(foreach it,$(wildcard share/web/*),644:$(it):$(datadir)/profhouse/web/$(notdir $(it))) \
+	$(foreach it,$(READ),644:$(it):$(docdir)/$(it)) \
+	$(foreach it,$(START_FROM),644:share/examples/$(it):$(docdir)/examples/$(it)) \
+	755:share/examples/bisect_run:$(docdir)/examples/bisect_run \
+	$(foreach it,$(wildcard examples/*),644:$(it):$(docdir)/$(it))
 
 .PHONY: help build test gate bench install uninstall
 
@@ -51,7 +41,7 @@ help:
 	@echo 'make test       builds, and runs the tests that need only the program; needs curl'
 	@echo 'make gate       runs all that CI runs, every proof from nothing; needs rt, git, gcc and curl'
 	@echo 'make bench      builds, and lists the benchmarks'
-	@echo 'make install    copies the built program, its manual page, completions, scripts, page and examples to PREFIX ($(PREFIX)), below DESTDIR'
+	@echo 'make install    copies the built program, scripts, page, manual pages, completions and docs to PREFIX ($(PREFIX)), below DESTDIR'
 	@echo 'make uninstall  removes these files'
 
 build:
@@ -79,10 +69,18 @@ bench: build
 install:
 	@test -x $(PROGRAM) || { echo 'there is no program $(PROGRAM): make build first' >&2; exit 1; }
 	@for it in $(FILES); do \
-		to="$(INTO)/$${it##*:}" from=$${it#*:}; \
+		to="$(DESTDIR)$${it##*:}" from=$${it#*:}; \
 		install -D -m "$${it%%:*}" "$${from%:*}" "$$to" && echo "$$to" || exit 1; \
 	done
+	@$(STRIP) "$(DESTDIR)$(bindir)/profhouse"
+	@for it in $(foreach it,$(TOOLS),$(it):$(call COMMAND,$(it))); do \
+		to="$(DESTDIR)$(bindir)/$${it#*:}"; \
+		ln -srf "$(DESTDIR)$(datadir)/profhouse/$${it%:*}" "$$to" && echo "$$to" || exit 1; \
+	done
+	@scripts/man_pages "$(DESTDIR)$(mandir)/man1"
 
 uninstall:
-	@for it in $(FILES); do rm -f "$(INTO)/$${it##*:}"; done
-	@rmdir "$(INTO)/share/profhouse/web" "$(INTO)/share/profhouse/examples" "$(INTO)/share/profhouse" 2>/dev/null || true
+	@for it in $(FILES); do rm -f "$(DESTDIR)$${it##*:}"; done
+	@for it in $(foreach it,$(TOOLS),$(call COMMAND,$(it))); do rm -f "$(DESTDIR)$(bindir)/$$it" "$(DESTDIR)$(mandir)/man1/$$it.1"; done
+	@rmdir "$(DESTDIR)$(datadir)/profhouse/web" "$(DESTDIR)$(datadir)/profhouse" "$(DESTDIR)$(docdir)/docs/pictures" "$(DESTDIR)$(docdir)/docs" \
+		"$(DESTDIR)$(docdir)/examples" "$(DESTDIR)$(docdir)" 2>/dev/null || true

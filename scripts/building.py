@@ -294,9 +294,12 @@ def build():
 
 
 def built(work):
-    count, what = len(work.todo), "is older than its sources" if os.path.exists(PROGRAM) else "is not built"
+    is_there = os.path.exists(PROGRAM)
+    count, what = len(work.todo), "is older than its sources, or was built elsewhere" if is_there else "is not built"
     say(f"the program {what}: {count} of {len(work.tree.names)} crates to prove, on {work.cores} processors, "
         f"about {work.minutes()} on a slow machine")
+    if is_there:
+        say(f"Ctrl-C ends this; {os.path.relpath(PROGRAM)} runs the program as it is")
     if not work.run() or not work.program():
         return 1
     if work.tree.looks() != work.looks:

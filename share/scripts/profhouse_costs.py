@@ -8,7 +8,7 @@ import re
 from collections import namedtuple
 
 from profhouse_http import CALL_LINE, SHARE_LINE, SUM_LINE, escaped, fields_of, plain, rows_of, said_by
-from profhouse_names import Name, matched, names_of
+from profhouse_names import Name, last_part, matched, names_of
 from profhouse_script import Fault, WordFault, shown
 
 KEYS = ("object", "file", "function", "line", "thread")
@@ -136,6 +136,14 @@ def self_costs(server, of, event, key):
 
 def inclusive_costs(server, of, event):
     return costs_of(server, of, event, "function", True)
+
+
+def costs_by_object(server, run, event):
+    """What a run costs by object. A run without the event is a fault."""
+    costs = self_costs(server, of_run(run), event, "object")
+    if costs is None:
+        raise Fault(f"run {run}: refused: no such event")
+    return costs
 
 
 class Functions:
@@ -285,6 +293,12 @@ def jumps_of(costs, rule):
 
 
 # What differs.
+
+def moved(before, after):
+    """The objects or files that are gone in one folder and new in another, as pairs of both paths."""
+    gone, new = ({last_part(it): it for it in sorted({*one} - {*other})} for one, other in ((before, after), (after, before)))
+    return [(gone[it], new[it]) for it in sorted({*gone} & {*new})]
+
 
 def differences(before, after):
     """How the costs of keys differ, the greatest difference first."""

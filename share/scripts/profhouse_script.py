@@ -46,8 +46,17 @@ class Words(argparse.ArgumentParser):
         super().error(shown(message))
 
 
+def installed(name):
+    """The name by which a script is called where it is installed: profhouse_history is profhouse-history there."""
+    return "profhouse-" + re.sub("^profhouse_", "", name).replace("_", "-")
+
+
 def words_of(name, about, **more):
-    """What reads the words of a script, of which `about` is the help."""
+    """What reads the words of a script, of which `about` is the help. Both have the name by which it was called."""
+    script = name.split(" ")[0]
+    if os.path.basename(sys.argv[0]) == installed(script):
+        name, about = (it.replace(script, installed(script)) for it in (name, about))
+        more = {it: text.replace(script, installed(script)) for it, text in more.items()}
     return Words(prog=name, description=about, allow_abbrev=False, formatter_class=argparse.RawDescriptionHelpFormatter, **more)
 
 

@@ -141,7 +141,8 @@ class Table:
         text = io.StringIO()
         writer = csv.writer(text, lineterminator="\n")
         has_lines = any(lines for _, lines in self.rows)
-        writer.writerow([*(it.key for it in self.columns), *(["calls"] if has_lines else [])])
+        # (the name of a column may be bytes of a label)
+        writer.writerow([*(shown(it.key) for it in self.columns), *(["calls"] if has_lines else [])])
         for row, lines in self.data():
             writer.writerow([*("" if it is None else it for it in row.values()), *(["; ".join(lines)] if has_lines else [])])
         return text.getvalue().split("\n")[:-1]

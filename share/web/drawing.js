@@ -103,6 +103,12 @@ export function leading(row, change) {
   return row;
 }
 
+// Of the rows in a box Tab reaches one, and the arrows lead to the others.
+export function reachable(box, row) {
+  for (const it of box.querySelectorAll("tr.leads[tabindex='0']")) it.tabIndex = -1;
+  if (row) row.tabIndex = 0;
+}
+
 // Marks the rows of the function that is looked at.
 export function mark() {
   const s = state();
@@ -124,6 +130,9 @@ export function filtered(rows, textOf) {
 
 export const greatest = rows => rows.reduce((top, row) => size(row.cost) > top ? size(row.cost) : top, 0n);
 export const sum = rows => rows.reduce((all, row) => all + row.cost, 0n);
+
+// What a full bar stands for: the greatest row, or a tenth of the total where all are smaller. So a flat profile has short bars.
+export const fullBar = (rows, total) => [greatest(rows), total / 10n].reduce((a, b) => a > b ? a : b);
 
 // A hint beside the mouse.
 export function hint(event, text) {

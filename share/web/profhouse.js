@@ -3,13 +3,13 @@
 import { go, link, replace, state } from "./address.js";
 import { panel } from "./calls.js";
 import { differenceView, lessOf } from "./difference.js";
-import { $, anchor, element, fault, mark, note, widen } from "./drawing.js";
+import { $, anchor, element, fault, mark, note, reachable, widen } from "./drawing.js";
 import { flame } from "./flame.js";
 import { historyView, toHistory } from "./history.js";
 import { report, verified } from "./reports.js";
 import { pick, source } from "./source.js";
-import { baselineOf, chosen, events, groups, load, nameOf, Refusal, runs } from "./store.js";
-import { base, shown, toBytes } from "./texts.js";
+import { baselineOf, chosen, events, groups, load, nameOf, Refusal, runName, runs } from "./store.js";
+import { labelled, shown, toBytes } from "./texts.js";
 
 const VIEWS = {
   function: ["Functions", (s, of, event) => report("function", s, of, event)],
@@ -40,7 +40,7 @@ function runRow(s, of, run, baselines) {
   const made = element("div", { className: "pick" + (of.run === run.number ? " on" : "") },
     anchor(link({ ...NONE, run: run.number }), "", { title: `${run.label}\n${run.kind}, SHA-256 ${run.digest}` }),
     tag ? element("span", { className: "tag" }, tag) : null);
-  made.firstChild.append(element("span", { className: "number" }, run.number), element("span", { className: "label" }, base(run.label)));
+  made.firstChild.append(element("span", { className: "number" }, run.number), element("span", { className: "label" }, labelled(run.label)));
   if (WITH_LESS.includes(viewOf(s))) {
     made.append(anchor(link({ less: "r" + run.number }), "−", { className: "minus" + (s.less === "r" + run.number ? " on" : ""), title: `take off run ${run.number}` }));
   }
@@ -92,7 +92,7 @@ function drawHead(s, view, of) {
   $("filter").placeholder = view === "flame" ? "search  ( / )" : "filter  ( / )";
   if (document.activeElement !== $("filter")) $("filter").value = shown(s.q ?? "");
   const baseline = baselineOf(of), options = [["", baseline ? `baseline: run ${baseline.run}` : "nothing"],
-    ...groups.map(it => ["g" + it.name, `group ${it.name}`]), ...runs.map(it => ["r" + it.number, `${it.number} ${base(it.label)}`]).reverse()];
+    ...groups.map(it => ["g" + it.name, `group ${it.name}`]), ...runs.map(it => ["r" + it.number, `${it.number} ${labelled(it.label)}`]).reverse()];
   if (!$("less-label").hidden) {
     $("less").replaceChildren(...options.map(([value, text]) => element("option", { value, selected: value === (s.less ?? "") }, text)));
   }
@@ -126,6 +126,7 @@ async function drawContent(s, view, of, event, mine) {
 
 function put(name, nodes) {
   $("content").replaceChildren(...nodes.filter(Boolean));
+  reachable($("content"), $("content").querySelector("tr.leads"));
   drawn = name;
 }
 
@@ -138,6 +139,7 @@ async function drawPanel(s, view, of, event, mine) {
   const nodes = await panel({ ...s, view }, of, event);
   if (mine !== turn) return;
   box.replaceChildren(...nodes.flat());
+  reachable(box, box.querySelector("tr.leads"));
   box.hidden = false;
   box.scrollTop = 0;
 }
@@ -145,7 +147,10 @@ async function drawPanel(s, view, of, event, mine) {
 // Why the lists of runs and groups could not be read.
 let unread = null;
 
-const EMPTY = ["The store has no runs yet: ", element("code", null, "profhouse import"), " brings some."];
+// No other program can import while this one serves the store.
+const EMPTY = () => note("The store has no runs yet. End profhouse_web, ", element("code", null, "profhouse import --db D FILE"),
+  ", and start it again. Or start it with --write, and ",
+  element("code", null, `profhouse_remote import --api ${new URL("api", location.href.split("#")[0])} FILE`), " brings some while it runs.");
 
 async function show(anew) {
   const s = state(), view = viewOf(s), of = chosen(s), mine = ++turn;
@@ -157,7 +162,7 @@ async function show(anew) {
   drawHead(s, view, of);
   try {
     if (unread) throw unread;
-    if (!runs.length) return put("", [note(...EMPTY)]);
+    if (!runs.length) return put("", [EMPTY()]);
     const event = await drawEvents(s, view, of);
     if (mine !== turn) return;
     if (event === undefined) return put("", [note("These runs count no event.")]);
@@ -173,9 +178,15 @@ async function show(anew) {
   }
 }
 
+// What failed, and how to go on: once more, or with a run that is there.
 function failed(error) {
+  const newest = runs.at(-1), again = element("button", { id: "again", onclick: () => begin() }, "try again");
+  const other = newest && state().run !== newest.number
+    ? [" or look at ", anchor(link({ ...NONE, run: newest.number, less: undefined, fn: undefined, ob: undefined }), runName(newest.number), { id: "newest" })] : [];
   $("detail").hidden = true;
-  put("", [fault(error instanceof Refusal ? error.message : `The page has a fault: ${error.message}`)]);
+  // (an empty list would be no choice)
+  $("event-label").hidden ||= !$("event").length;
+  put("", [fault(error instanceof Refusal ? error.message : `The page has a fault: ${error.message}`), note(again, ...other)]);
 }
 
 async function begin() {
@@ -190,7 +201,8 @@ async function begin() {
 
 // The keys.
 
-const KEYS = [["1 to 9, 0", "a view"], ["h", "the history, of the function that is looked at or has the keyboard"], ["/", "the filter; Esc leaves it"], ["↑ ↓ Home End", "from row to row"], ["Enter", "open the row"],
+const KEYS = [["1 to 9, 0", "a view"], ["h", "the history, of the function that is looked at or has the keyboard"], ["/", "the filter; Esc leaves it"],
+  ["r", "fold the list of runs"], ["↑ ↓ Home End", "from row to row"], ["Enter", "open the row"],
   ["↑ ↓ ← →", "in a flame graph: from frame to frame"], ["Esc", "close the function, or the zoom"], ["Alt ←", "back"], ["?", "these keys"]];
 
 function help() {
@@ -201,8 +213,18 @@ function help() {
   $("help").showModal();
 }
 
+// The list of groups and runs folds, so that names have its room. A narrow page begins so.
+const narrow = matchMedia("(max-width: 760px)");
+
+function fold(isFolded) {
+  if (isFolded && $("runs").contains(document.activeElement)) $("runs-button").focus();
+  $("runs").hidden = isFolded;
+  $("runs-button").ariaExpanded = String(!isFolded);
+}
+
 function moveRow(key) {
-  const rows = [...document.querySelectorAll("#content tr.leads")], at = rows.indexOf(document.activeElement.closest?.("tr"));
+  const focus = document.activeElement, box = focus.closest?.("#detail") ?? $("content");
+  const rows = [...box.querySelectorAll("tr.leads")], at = rows.indexOf(focus.closest?.("tr"));
   const next = { ArrowDown: at + 1, ArrowUp: Math.max(0, at - 1), Home: 0, End: rows.length - 1 }[key];
   rows[next]?.focus();
   return rows.length > 0;
@@ -230,6 +252,7 @@ function pressed(event) {
   const view = Object.keys(VIEWS)[[..."1234567890"].indexOf(event.key)], row = event.target.closest?.("tr.leads");
   if (view) go({ view, q: undefined });
   else if (event.key === "h") openHistory(row, event.target.closest?.(".frame"));
+  else if (event.key === "r") fold(!$("runs").hidden);
   else if (event.key === "/") $("filter").focus();
   else if (event.key === "?") help();
   else if (event.key === "Escape") escaped(state());
@@ -269,6 +292,12 @@ $("event").onchange = chooseEvent;
 $("less").onchange = () => go({ less: $("less").value });
 $("filter").oninput = filter;
 $("help-button").onclick = help;
+$("runs-button").onclick = () => fold(!$("runs").hidden);
+narrow.onchange = () => fold(narrow.matches);
+fold(narrow.matches);
+for (const box of [$("content"), $("detail")]) {
+  box.addEventListener("focusin", event => event.target.matches("tr.leads") && reachable(box, event.target));
+}
 $("home").onclick = () => begin();
 addEventListener("keydown", pressed);
 addEventListener("copy", copied);

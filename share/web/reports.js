@@ -1,6 +1,6 @@
 // The views of one selection of runs: where an event went, by function, file, object, line or thread; and verify.
 
-import { anchor, barCell, costCell, element, filtered, functionCell, greatest, leading, nameCell, note, rowsBody,
+import { anchor, barCell, costCell, element, filtered, fullBar, functionCell, leading, nameCell, note, rowsBody,
   shareCell, sum, table } from "./drawing.js";
 import { link } from "./address.js";
 import { functionOf, inclusive, members, objects, selfCosts, verify } from "./store.js";
@@ -45,7 +45,7 @@ export async function report(view, s, runs, event) {
   const { total, rows } = await namedRows(view, s, runs, event);
   const byFunction = view === "function" || view === "inclusive";
   const kept = filtered(rows, row => byFunction ? `${row.object}:${row.name}` : row.name);
-  const top = greatest(rows);
+  const top = fullBar(rows, total);
   const draw = row => {
     const made = element("tr", null, costCell(row.cost), shareCell(row.cost, total), barCell(row.cost, top),
       byFunction ? functionCell(row) : nameCell(row.name));

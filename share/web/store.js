@@ -1,6 +1,6 @@
 // What the server knows.
 
-import { base, bytesOf, linesOf, percent, shown, unescaped } from "./texts.js";
+import { bytesOf, labelled, linesOf, percent, shown, unescaped } from "./texts.js";
 
 // Answers that were read, by their addresses: the page asks for each once.
 const known = new Map();
@@ -148,7 +148,7 @@ export const members = of => of.run ? [of.run]
 // How runs are called in a list.
 export const runName = number => {
   const run = runs.find(it => it.number === number);
-  return run ? `run ${number}, ${base(run.label)}` : `run ${number}`;
+  return run ? `run ${number}, ${labelled(run.label)}` : `run ${number}`;
 };
 export const nameOf = chosen => chosen.run ? runName(chosen.run) : chosen.group ? `group ${chosen.group}` : "all runs";
 

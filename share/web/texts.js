@@ -66,6 +66,9 @@ export const linesOf = text => text.split("\n").slice(0, -1);
 
 export const base = path => path.slice(path.lastIndexOf("/") + 1) || path;
 
+// A label in short: the last part of a path, but all of one that says what was run, as `bench=sort branch=my/branch`.
+export const labelled = label => /(?:^|[ /])[a-z][a-z0-9_-]*=[^ ]/.test(label) ? label : base(label);
+
 const size = number => number < 0n ? -number : number;
 export { size };
 

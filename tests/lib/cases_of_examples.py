@@ -22,7 +22,7 @@ def prepare(tried):
     tried.write("bin/make", MAKE, 0o755)
     tried.write("bin/valgrind", VALGRIND, 0o755)
     for name in ("same_paths", "fail_if_costlier"):
-        os.symlink(os.path.join(SCRIPTS, name), tried.path(f"bin/{name}"))
+        os.symlink(os.path.join(SCRIPTS, name), tried.path(f"bin/profhouse-{name.replace('_', '-')}"))
 
 
 def steps_of_github():
@@ -89,8 +89,9 @@ def cases_of_both(tried):
             "CI_COMMIT_BRANCH": "main", "CI_COMMIT_REF_SLUG": "main", "CI_COMMIT_SHA": "0a1b"})
         tried.expect("the group of gitlab", groups, b"main 1 2,3,6,7\n")
         labels = [line.split(b" ", 3)[3] for line in tried.script("profhouse_remote", "runs", PROFHOUSE_API=address).out.splitlines()]
-        tried.expect("the labels", labels[1:], [
-            b"main 0a1b", b"main 0a1b", b"pull 0a1b", b"my/branch 0a1b", b"main 0a1b", b"main 0a1b", b"pull 0a1b", b"my-branch 0a1b"])
+        day = re.compile(rb" date=\d{4}-\d\d-\d\d$")
+        tried.expect("the labels", [day.sub(b"", it) for it in labels[1:] if day.search(it)], [b"bench=all commit=0a1b branch=%s" % it for it in (
+            b"main", b"main", b"pull", b"my/branch", b"main", b"main", b"pull", b"my-branch")])
 
 
 def cases_of_bisection(tried):
@@ -112,8 +113,14 @@ def cases_of_bisection(tried):
     ran = tried.run(*git, "bisect", "run", os.path.join(EXAMPLES, "bisect_run"), tried.path("bisect.db"), "main", "Ir", "2%")
     tried.expect("the commit that is found", (ran.status, f"{hashes[8]} is the first bad commit" in ran.out.decode()), (0, True))
     labels = [line.split(b" ")[3].decode() for line in tried.profhouse("runs", "--db", "bisect.db").splitlines()[1:]]
-    tried.expect("profiles are kept under their commits", [it for it in labels if not any(
-        whole.startswith(it[:-len(".cg")]) for whole in hashes)], [])
+    tried.expect("profiles are kept under their commits", (len(labels) > 2, [it for it in labels if not any(
+        f"commit={whole}".startswith(it) for whole in hashes)]), (True, []))
+    tried.expect("the paths are those of the baseline", b"same_paths" in ran.err + ran.out, False)
+    tried.profhouse("import", "--db", "unlike.db", tried.write("unlike.cg", tried.read("first.cg").replace(b"/src/bench", b"/old/bench")))
+    tried.profhouse("group", "--db", "unlike.db", "main")
+    tried.profhouse("baseline", "--db", "unlike.db", "main", "1")
+    ran = tried.run("env", "-C", "repository", os.path.join(EXAMPLES, "bisect_run"), tried.path("unlike.db"), "main", "Ir", "2%")
+    tried.expect("a baseline with other paths", b"/old/bench of run 1 is /src/bench in run 2, " in ran.err and b"by same_paths\n" in ran.err, True)
     ran = tried.run(os.path.join(EXAMPLES, "bisect_run"), "bisect.db", "main", "Ir")
     tried.expect_refusal("a word is missing", ran, b"usage: bisect_run", status=128)
     tried.expect_refusal("no store", tried.run(os.path.join(EXAMPLES, "bisect_run"), "none.db", "main", "Ir", "2%"), b"no store", status=128)
@@ -124,21 +131,7 @@ def cases_of_bisection(tried):
         tried.expect(f"skipped: {words}", ran.status, 125)
 
 
-def cases_of_the_installation(tried):
-    """The Makefile installs each script and each example, with the rights that it has here."""
-    with open(os.path.join(TOP, "Makefile"), encoding="utf-8") as file:
-        listed = re.findall(r"(\d+):(share/(?:scripts|examples)/\S+):share/profhouse/(\S+)", file.read())
-    wanted = []
-    for folder, place in (("scripts", ""), ("examples", "examples/")):
-        for name in os.listdir(os.path.join(TOP, "share", folder)):
-            path = f"share/{folder}/{name}"
-            if os.path.isfile(os.path.join(TOP, path)):
-                wanted.append(("755" if os.access(os.path.join(TOP, path), os.X_OK) else "644", path, place + name))
-    tried.expect("what is installed", sorted(listed), sorted(wanted))
-
-
 def cases(tried):
-    cases_of_the_installation(tried)
     prepare(tried)
     cases_of_both(tried)
     cases_of_bisection(tried)

@@ -130,6 +130,21 @@ def cases_of_each(tried):
     tried.expect_refusal("another key", tried.script(NAME, "each.db", "main", "5", "Ir", "1%", "--each=5%", "--key=line"), b"invalid choice")
 
 
+def cases_of_paths(tried):
+    """The program of run 2 has another folder than that of the baseline, and its library has another name."""
+    for number, name in ((1, "/old/bench"), (2, "/src/bench"), (3, "/old/bench")):
+        tried.write(f"path{number}.cg", f"pid: {number}\nevents: Ir\nob={name}\nfn=f\n1 100\nob=/lib/l.so.{number}\nfn=g\n1 5\n")
+    tried.profhouse("import", "--db", "paths.db", "path1.cg", "path2.cg", "path3.cg")
+    tried.profhouse("group", "--db", "paths.db", "main")
+    tried.profhouse("baseline", "--db", "paths.db", "main", "1")
+    said = (b"/old/bench of run 1 is /src/bench in run 2, so their functions are compared with nothing: "
+            b"give both profiles the same paths before the import, by same_paths\n")
+    ran = tried.script(NAME, "paths.db", "main", "2", "Ir", "0")
+    tried.expect("another path of the program", (ran.status, ran.err), (0, said))
+    ran = tried.script(NAME, "paths.db", "main", "3", "Ir", "0")
+    tried.expect("the same path", (ran.status, ran.err), (0, b""))
+
+
 def cases_of_stores(tried):
     words = ("main", "2", "Ir", "1")
     held = sorted(os.listdir(tried.folder))
@@ -260,6 +275,7 @@ def cases(tried):
     cases_of_refusals(tried, ("--db", "s.db"))
     cases_of_stores(tried)
     cases_of_each(tried)
+    cases_of_paths(tried)
     cases_of_great_numbers(tried)
     with tried.serving("s.db") as address:
         cases_of_limits(tried, ("--api", address))

@@ -62,6 +62,26 @@ GREW_MARKDOWN = f"""**`Ir by function, with all that they call: run 8 (8.cg), le
 """
 
 
+# Runs of benchmarks of builds: the label, the event, and the cost.
+LABELLED = [("bench=sort commit=a1 branch=main date=2026-11-27", "Ir", 1000), ("bench=parse commit=a1 branch=main", "Ir", 500),
+            ("bench=sort commit=b2 branch=main", "Ir", 1010), ("again/bench=sort commit=b2 branch=main", "Ir", 1005),
+            ("bench=parse commit=c3 branch=main", "Ir", 600), ("bench=sort commit=c3 branch=main", "Ir", 1006),
+            ("bench=sort commit=d4 branch=work/x commit=a1", "Ir", 2000), ("plain bench= commit", "Ir", 7), ("bench=new commit=d4", "Dr", 5)]
+BENCHES_TEXT = """Ir of 2 benchmarks in 3 of 3 builds
+  [1]    [2]    [3]  to the one before                  bench
+  500      -    600               +100  +20.00 %  jump  parse
+1,000  1,005  1,006                 +1   +0.09 %        sort
+[1] a1 branch=main date=2026-11-27
+[2] b2 branch=main
+[3] c3 branch=main
+"""
+BENCHES_CSV = """a1,b2,c3,d4,change,change_percent,jump,bench
+,,,,,,,new
+500,,600,,,,,parse
+1000,1005,1006,2000,994,+98.80,jump,sort
+"""
+
+
 def profile(number, costs, count):
     """The file of a run. (Two files of the same bytes would be one run.)"""
     lines = [f"pid: {number}", "events: Ir Dr", "event: Both = Ir + 2 Dr"]
@@ -330,6 +350,50 @@ def cases_of_folders(tried):
         f"{'':40}called by app:main: +700, +5 calls", "  2      +1   +4.76 %      21     22  x.so:same", "run 2 (build2.cg)"])
 
 
+def cases_of_labels(tried):
+    """Which runs --where takes, and a table of benchmarks by builds."""
+    for folder in ("again", "bench=sort commit=d4 branch=work"):
+        os.mkdir(tried.path(folder))
+    for number, (label, event, cost) in enumerate(LABELLED, 1):
+        tried.write(label, f"pid: {number}\nevents: {event}\nfn=f\n1 {cost}\n")
+    tried.profhouse("import", "--db", "l.db", *(label for label, *_ in LABELLED))
+    for what, *words in (("group", "g"), ("join", "g", "2"), ("join", "g", "5"), ("baseline", "g", "1")):
+        tried.profhouse(what, "--db", "l.db", *words)
+
+    def ask(command, *words, event="Ir"):
+        return tried.script(NAME, command, "--db", "l.db", "--event", event, *words)
+
+    def costs(*words):
+        rows = rows_of(ask("trend", "--csv", *words))
+        return [(it[0], it[1]) for it in rows[1:]] if isinstance(rows, list) else rows
+    sort, here = ("--where", "bench=sort"), ("--where", "branch=main")
+    tried.expect("two fields", costs(*sort, *here), [("1", "1000"), ("3", "1010"), ("4", "1005"), ("6", "1006")])
+    tried.expect("the newest two of these", costs(*sort, "--last", "2"), [("6", "1006"), ("7", "2000")])
+    tried.expect("a value with a slash, and the first of two", costs("--where", "branch=work/x", "--where", "commit=d4"), [("7", "2000")])
+    tried.expect("the second of two fields is none", ask("trend", "--where", "branch=work/x", "--where", "commit=a1").status, 2)
+    parse = rows_of(ask("trend", "--csv", "--group", "g", "--where", "bench=parse"))
+    tried.expect("a baseline of another benchmark is none", parse[1:], [["2", "500", "", "", "0", "+0.00", LABELLED[1][0]],
+                                                                        ["5", "600", "100", "+20.00", "100", "+20.00", LABELLED[4][0]]])
+    tried.expect("benchmarks by builds", ask("benches", *here), (0, BENCHES_TEXT.encode(), b""))
+    tried.expect("as CSV", ask("benches", "--csv").out, BENCHES_CSV.encode())
+    row = {"costs": {"c3": 600}, "change": 100, "change_percent": "+20.00", "jump": "jump", "bench": "parse"}
+    tried.expect("as JSON", json.loads(ask("benches", "--builds", "1", "--json", *here).out), [
+        row, {"costs": {"c3": 1006}, "change": 1, "change_percent": "+0.09", "jump": None, "bench": "sort"}])
+    tried.expect("as Markdown", ask("benches", "--builds", "2", "--markdown", *here).out.decode().splitlines()[2:6], [
+        "| [1] | [2] | to the one before |  |  | bench |", "|--:|--:|--:|--:|---|---|",
+        "| - | 600 | +100 | +20.00 % | `jump` | `parse` |", "| 1,005 | 1,006 | +1 | +0.09 % |  | `sort` |"])
+    tried.expect("more is no jump", b"jump" in ask("benches", "--more", "20%", *here).out, False)
+    for what, ran, said in (("no such word", ask("trend", "--where", "branch"), b"NAME=VALUE"), ("no such run", ask("benches", "--where", "branch=none"), b"no such runs"),
+                            ("no benchmark", ask("benches", "--runs", "8..8"), b"bench= and commit="), ("no event", ask("benches", event="ir"), b"no run has the event ir")):
+        tried.expect_refusal(what, ran, said)
+
+
+def cases_of_helps(tried):
+    for command in ("trend", "jumps", "grew", "benches", "callers", "callees"):
+        ran = tried.script(NAME, command, "--help")
+        tried.expect(f"{command} --help", (ran.status, ran.err, ran.out.startswith(f"usage: {NAME} {command} ".encode())), (0, b"", True))
+
+
 def in_a_terminal(tried, *words, columns=80):
     """What a terminal shows."""
     above, below = pty.openpty()
@@ -361,7 +425,9 @@ def cases_of_terminals(tried, address):
 
 def cases(tried):
     tried.expect_help(NAME)
+    cases_of_helps(tried)
     make_store(tried)
+    cases_of_labels(tried)
     cases_of_names(tried)
     cases_of_objects(tried)
     cases_of_folders(tried)

@@ -55,9 +55,9 @@ class Stored:
         self.names = [*names_of(chance, self.mark), *TWINS]
         self.shown = [as_shown(it) for it in self.names]
         # (the label of a run is its path, without control codes)
-        label = "run \u202e|`\u009b31m\u2066$(touch mark)`\U000e0041.cg"
+        label = "run $(touch mark) bench=\u202e|`\u009b31m\u2066 commit=%d|$(touch${IFS}mark)`\U000e0041 |\u202e=\u009b.cg"
         for number in (1, 2):
-            tried.profhouse("import", "--db", "s.db", tried.write(f"{number}{label}", profile(self.names, number)))
+            tried.profhouse("import", "--db", "s.db", tried.write(f"{number}{label % number}", profile(self.names, number)))
         tried.profhouse("group", "--db", "s.db", "main")
         tried.profhouse("baseline", "--db", "s.db", "main", "1")
         for name in ("tmp", "home"):
@@ -105,14 +105,24 @@ class Stored:
             done = self.ran("profhouse_history", *words, form)
             names = [cut(it) for it in wanted] if form == "--markdown" else wanted
             found += [*self.each(f"profhouse_history {form}", names, readers[form](done.out.decode()), done), hidden_wrong(f"profhouse_history {form}", done.out, "\n")]
-        for more in (("grew", "1", "2"), ("jumps", "--lines"), ("trend", "--top", "300")):
+        for more in (("grew", "1", "2"), ("jumps", "--lines"), ("trend", "--top", "300"), ("benches",), ("benches", "--json"), ("benches", "--csv")):
             done = self.ran("profhouse_history", more[0], "--db", "s.db", "--event", "Ir", *more[1:])
             found += [hidden_wrong(f"profhouse_history {more[0]}", done.out, "\n"), None if done.status == 0 else f"profhouse_history {more}: {done}"]
+        found += self.of_benches()
         for name, it in zip(self.names[::20], self.shown[::20]):
             done = self.ran("profhouse_history", "trend", "--db", "s.db", "--event", "Ir", "--runs=1..1", "--json", "function", "--", f"{it}:{it}")
             cost = [row["cost"] for row in json.loads(done.out)] if done.status == 0 else done
             found.append(None if cost == [100 + self.names.index(name)] else f"profhouse_history trend {it!r}: {cost}")
         return found
+
+    def of_benches(self):
+        """The benchmark and the builds of the labels, as a table of Markdown."""
+        done = self.ran("profhouse_history", "benches", "--db", "s.db", "--event", "Ir", "--markdown")
+        total = 2 * sum(range(100, 100 + len(self.names)))
+        wanted = [f" {total // 2:,} ", f" {total:,} ", f" +{total // 2:,} ", " +100.00 % ", visible("\u202e|`\u009b31m\u2066")]
+        row = cells(done.out.decode().split("\n")[4]) if done.status == 0 else []
+        found = [*row[:4], content_of(row[5])] if len(row) == 6 else done
+        return [None if found == wanted else f"profhouse_history benches: {found}", hidden_wrong("profhouse_history benches", done.out, "\n")]
 
     def of_callgrind(self, done):
         """The file that is written has the names as they are, and no other line for them."""
@@ -170,6 +180,7 @@ WORDS = {
                           (("jumps", "--api=A", "--event=Ir", "--more=W"), (2,)), (("jumps", "--api=A", "--event=Ir", "W"), (2,)),
                           (("grew", "--api=A", "--event=Ir", "1", "W"), (2,)), (("grew", "--api=A", "--event=Ir", "W", "2", "file"), (2,)),
                           (("callers", "--api=A", "--event=Ir", "--run=1", "W"), (2,)), (("callees", "--api=A", "--run=W", "f"), (2,)),
+                          (("trend", "--api=A", "--event=Ir", "--where=W"), (2,)), (("benches", "--api=A", "--event=W"), (2,)),
                           (("W", "--api=A"), (2,)), (("jumps", "--event=Ir", "--api=W"), (2,)), (("trend", "--event=Ir", "--db=W"), (2,))],
     "fleet_load": [(("--fleet=W", "--copy=D", "main"), (2,)), (("--fleet=A/x", "--copy=D", "W"), (2,)), (("--fleet=A/x", "--copy=W", "main"), (2,)),
                    (("--fleet=postgresql://h/W?host=/nowhere", "--copy=D", "main"), (2,)), (("--fleet=A/x", "--copy=D", "main", "--at=W"), (2,))],
