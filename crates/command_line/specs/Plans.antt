@@ -19,8 +19,8 @@ use Rattle.command_line.specs.declared.plans.PlanError.TheVariants.{Memory, RunA
 use Rattle.command_line.specs.declared.plans.Plan.TheVariants.{Total, Import, Remove, Runs, Group, Join, Leave, Baseline, Groups}
 use Rattle.command_line.specs.declared.plans.Plan.TheVariants.{By, Inclusive, Callers, Callees, Subtract, Verify}
 use Rattle.command_line.specs.declared.plans.Plan.TheVariants as plans
-use Rattle.command_line.specs.declared.plans.Selected.{Selected}
-use Rattle.command_line.specs.declared.plans.Selected.TheVariants as selected
+use Rattle.requests.specs.Plain.{LentSelection}
+use Rattle.requests.specs.declared.selections.Selection.TheVariants as selections
 use Rattle.command_line.specs.Grammar.{IsCommandLine}
 
 -- ---- the numbers of runs, of requests and of bytes
@@ -54,10 +54,10 @@ SaysRun text = SaysUpTo 2147483647 text
 
 -- ---- what is sure of a plan
 
-abbrev pub IsSoundSelection : Selected → Type 0
-IsSoundSelection selected.All = Unit {0}
-IsSoundSelection (selected.Run number) = IsRunNumber number
-IsSoundSelection (selected.Group name) = Unit {0}
+abbrev pub IsSoundSelection : LentSelection → Type 0
+IsSoundSelection selections.All = Unit {0}
+IsSoundSelection (selections.Run number) = IsRunNumber number
+IsSoundSelection (selections.Group name) = Unit {0}
 
 -- numbers of runs, of requests and of bytes are in their range, where a list is wanted it has one item at least, and a threshold is one in percent
 abbrev pub IsSound : Plan → Type 0
@@ -105,18 +105,18 @@ abbrev pub HasNumber : List Row → Text → Option ℕ → Type 0
 HasNumber rows id number = option_map number_of (one_of id rows) ≡ number
 
 -- the runs that two options select: those of a group, one run, or all where neither is given
-abbrev pub HasSelectionBy : Text → Text → List Row → Selected → Type 0
-HasSelectionBy run group rows selected.All = (first_of run rows ≡ None) × (first_of group rows ≡ None)
-HasSelectionBy run group rows (selected.Run number) = (option_map number_of (first_of run rows) ≡ Some number) × (first_of group rows ≡ None)
-HasSelectionBy run group rows (selected.Group name) = (first_of run rows ≡ None) × HasWord rows group name.now
+abbrev pub HasSelectionBy : Text → Text → List Row → LentSelection → Type 0
+HasSelectionBy run group rows selections.All = (first_of run rows ≡ None) × (first_of group rows ≡ None)
+HasSelectionBy run group rows (selections.Run number) = (option_map number_of (first_of run rows) ≡ Some number) × (first_of group rows ≡ None)
+HasSelectionBy run group rows (selections.Group name) = (first_of run rows ≡ None) × HasWord rows group name.now
 
-abbrev pub HasSelection : List Row → Selected → Type 0
+abbrev pub HasSelection : List Row → LentSelection → Type 0
 HasSelection rows runs = HasSelectionBy (codes "run") (codes "group") rows runs
 
 -- the runs whose costs are taken off: none are selected where neither option is given
-abbrev pub HasLess : List Row → Option Selected → Type 0
-HasLess rows None = HasSelectionBy (codes "less-run") (codes "less-group") rows selected.All
-HasLess rows (Some selected.All) = ⊥
+abbrev pub HasLess : List Row → Option LentSelection → Type 0
+HasLess rows None = HasSelectionBy (codes "less-run") (codes "less-group") rows selections.All
+HasLess rows (Some selections.All) = ⊥
 HasLess rows (Some runs) = HasSelectionBy (codes "less-run") (codes "less-group") rows runs
 
 -- the word of a key

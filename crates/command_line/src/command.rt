@@ -10,7 +10,7 @@ use crate::grammar::grammar;
 use crate::plans::{Plan, PlanError};
 use crate::words::{
     files, is_given, key, less, less_run_and_less_group, limit, most_bytes, port, requests, run,
-    run_and_group, runs, selected, threshold, word,
+    run_and_group, runs, selection, threshold, word,
 };
 use clap::error::ErrorKind;
 use clap::{ArgMatches, Command};
@@ -94,7 +94,7 @@ fn by<'a>(db: &'a str, words: &ArgMatches<'a>) -> Option<Plan<'a>>
 {
     Some(Plan::By {
         db,
-        selected: selected(words)?,
+        selection: selection(words)?,
         event: word(words, "event")?,
         limit: limit(words)?,
         threshold: threshold(words)?,
@@ -107,11 +107,11 @@ fn inclusive<'a>(db: &'a str, words: &ArgMatches<'a>) -> Option<Plan<'a>>
     requires { HasWord (rows_of (found_of words.now)) (codes "db") db.now }
     ensures { IfSome result (IsPlanned (codes "inclusive") (rows_of (found_of words.now))) }
 {
-    let selected = selected(words)?;
+    let selection = selection(words)?;
     let event = word(words, "event")?;
     Some(Plan::Inclusive {
         db,
-        selected,
+        selection,
         event,
     })
 }
@@ -121,21 +121,21 @@ fn calls<'a>(subcommand: &str, db: &'a str, words: &ArgMatches<'a>) -> Option<Pl
     requires { HasWord (rows_of (found_of words.now)) (codes "db") db.now }
     ensures { IfSome result (IsPlanned subcommand.now (rows_of (found_of words.now))) }
 {
-    let selected = selected(words)?;
+    let selection = selection(words)?;
     let event = word(words, "event")?;
     let object = word(words, "object")?;
     let function = word(words, "FUNCTION")?;
     match subcommand {
         "callers" => Some(Plan::Callers {
             db,
-            selected,
+            selection,
             event,
             object,
             function,
         }),
         "callees" => Some(Plan::Callees {
             db,
-            selected,
+            selection,
             event,
             object,
             function,
@@ -149,13 +149,13 @@ fn subtract<'a>(db: &'a str, words: &ArgMatches<'a>) -> Option<Plan<'a>>
     requires { HasWord (rows_of (found_of words.now)) (codes "db") db.now }
     ensures { IfSome result (IsPlanned (codes "subtract") (rows_of (found_of words.now))) }
 {
-    let selected = selected(words)?;
+    let selection = selection(words)?;
     let less = less(words)?;
     let event = word(words, "event")?;
     let key = key(words)?;
     Some(Plan::Subtract {
         db,
-        selected,
+        selection,
         less,
         event,
         key,
@@ -167,8 +167,8 @@ fn verify<'a>(db: &'a str, words: &ArgMatches<'a>) -> Option<Plan<'a>>
     requires { HasWord (rows_of (found_of words.now)) (codes "db") db.now }
     ensures { IfSome result (IsPlanned (codes "verify") (rows_of (found_of words.now))) }
 {
-    let selected = selected(words)?;
-    Some(Plan::Verify { db, selected })
+    let selection = selection(words)?;
+    Some(Plan::Verify { db, selection })
 }
 
 /// A source that is annotated.
@@ -176,13 +176,13 @@ fn annotate<'a>(db: &'a str, words: &ArgMatches<'a>) -> Option<Plan<'a>>
     requires { HasWord (rows_of (found_of words.now)) (codes "db") db.now }
     ensures { IfSome result (IsPlanned (codes "annotate") (rows_of (found_of words.now))) }
 {
-    let selected = selected(words)?;
+    let selection = selection(words)?;
     let event = word(words, "event")?;
     let file = word(words, "file")?;
     let source = word(words, "SOURCE")?;
     Some(Plan::Annotate {
         db,
-        selected,
+        selection,
         event,
         file,
         source,
@@ -194,8 +194,8 @@ fn csv<'a>(db: &'a str, words: &ArgMatches<'a>) -> Option<Plan<'a>>
     requires { HasWord (rows_of (found_of words.now)) (codes "db") db.now }
     ensures { IfSome result (IsPlanned (codes "csv") (rows_of (found_of words.now))) }
 {
-    let selected = selected(words)?;
-    Some(Plan::Csv { db, selected })
+    let selection = selection(words)?;
+    Some(Plan::Csv { db, selection })
 }
 
 /// An export of stacks.
@@ -203,8 +203,8 @@ fn folded<'a>(db: &'a str, words: &ArgMatches<'a>) -> Option<Plan<'a>>
     requires { HasWord (rows_of (found_of words.now)) (codes "db") db.now }
     ensures { IfSome result (IsPlanned (codes "folded") (rows_of (found_of words.now))) }
 {
-    let selected = selected(words)?;
-    Some(Plan::Folded { db, selected })
+    let selection = selection(words)?;
+    Some(Plan::Folded { db, selection })
 }
 
 /// Requests that are answered.

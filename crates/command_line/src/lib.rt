@@ -11,4 +11,4 @@ mod plans;
 mod words;
 
 pub use command::plan;
-pub use plans::{Plan, PlanError, Selected};
+pub use plans::{Plan, PlanError};

@@ -3,17 +3,8 @@ use cg_text::ListVec;
 use clap::error::ErrorKind;
 use cost_rows::Key;
 use profile_records::Kind;
+use requests::Selection;
 use std::alloc::AllocError;
-
-/// The runs that a report is about.
-#[derive(Clone, Copy)]
-pub enum Selected<'a> {
-    All,
-    /// The run of this number.
-    Run(u32),
-    /// The runs of the group of this name.
-    Group(&'a str),
-}
 
 /// What the program is told to do.
 #[derive(Drop)]
@@ -69,7 +60,7 @@ pub enum Plan<'a> {
     /// total, and of them at most `limit`, where one was given.
     By {
         db: &'a str,
-        selected: Selected<'a>,
+        selection: Selection<&'a [u8]>,
         event: &'a str,
         limit: Option<u32>,
         threshold: u8,
@@ -78,13 +69,13 @@ pub enum Plan<'a> {
     /// Report what functions cost with all that they call.
     Inclusive {
         db: &'a str,
-        selected: Selected<'a>,
+        selection: Selection<&'a [u8]>,
         event: &'a str,
     },
     /// Report who calls a function of an object.
     Callers {
         db: &'a str,
-        selected: Selected<'a>,
+        selection: Selection<&'a [u8]>,
         event: &'a str,
         object: &'a str,
         function: &'a str,
@@ -92,7 +83,7 @@ pub enum Plan<'a> {
     /// Report whom a function of an object calls.
     Callees {
         db: &'a str,
-        selected: Selected<'a>,
+        selection: Selection<&'a [u8]>,
         event: &'a str,
         object: &'a str,
         function: &'a str,
@@ -101,20 +92,20 @@ pub enum Plan<'a> {
     /// they are the baseline of the selected group.
     Subtract {
         db: &'a str,
-        selected: Selected<'a>,
-        less: Option<Selected<'a>>,
+        selection: Selection<&'a [u8]>,
+        less: Option<Selection<&'a [u8]>>,
         event: &'a str,
         key: Key,
     },
     /// Compare the sums of runs with the totals that their files state.
     Verify {
         db: &'a str,
-        selected: Selected<'a>,
+        selection: Selection<&'a [u8]>,
     },
     /// Show the source at a path with the cost of each line, by the name of the file in the runs.
     Annotate {
         db: &'a str,
-        selected: Selected<'a>,
+        selection: Selection<&'a [u8]>,
         event: &'a str,
         file: &'a str,
         source: &'a str,
@@ -122,12 +113,12 @@ pub enum Plan<'a> {
     /// Write the self costs of all events as CSV.
     Csv {
         db: &'a str,
-        selected: Selected<'a>,
+        selection: Selection<&'a [u8]>,
     },
     /// Write the stacks of folded runs.
     Folded {
         db: &'a str,
-        selected: Selected<'a>,
+        selection: Selection<&'a [u8]>,
     },
     /// Answer so many requests over HTTP at a port, each by at most so many bytes of text, and with a line on standard
     /// error where `log` is true. Port 0 means any that is free.

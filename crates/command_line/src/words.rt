@@ -6,10 +6,10 @@ ghost use Rattle.command_line.specs.Plans.{HasWord, HasNumber, HasRun, HaveRuns,
 ghost use Rattle.command_line.specs.Plans.{HasSelection, HasSelectionBy, HasLess};
 
 use crate::grammar::{LAST_RUN, MAX_PERCENT, MOST_BYTES, MOST_REQUESTS};
-use crate::plans::Selected;
 use cg_text::ListVec;
 use clap::ArgMatches;
 use cost_rows::Key;
+use requests::Selection;
 use std::alloc::{AllocError, Global};
 
 /// The word of an argument.
@@ -129,35 +129,35 @@ pub fn less_run_and_less_group(words: &ArgMatches<'_>) -> bool
 }
 
 /// The runs that two options select, where they do not so in two ways.
-fn selected_by<'a>(words: &ArgMatches<'a>, run: &str, group: &str) -> Option<Selected<'a>>
+fn selection_by<'a>(words: &ArgMatches<'a>, run: &str, group: &str) -> Option<Selection<&'a [u8]>>
     ensures sound { IfSome result IsSoundSelection }
     ensures selection { IfSome result (HasSelectionBy run.now group.now (rows_of (found_of words.now))) }
 {
     match (word(words, run), word(words, group)) {
-        (None, None) => Some(Selected::All),
-        (Some(number), None) => Some(Selected::Run(run_of(number)?)),
-        (None, Some(name)) => Some(Selected::Group(name)),
+        (None, None) => Some(Selection::All),
+        (Some(number), None) => Some(Selection::Run(run_of(number)?)),
+        (None, Some(name)) => Some(Selection::Group(name.as_bytes())),
         (Some(_), Some(_)) => None,
     }
 }
 
 /// The runs that were selected, where they are not so in two ways.
-pub fn selected<'a>(words: &ArgMatches<'a>) -> Option<Selected<'a>>
+pub fn selection<'a>(words: &ArgMatches<'a>) -> Option<Selection<&'a [u8]>>
     ensures sound { IfSome result IsSoundSelection }
     ensures selection { IfSome result (HasSelection (rows_of (found_of words.now))) }
 {
-    selected_by(words, "run", "group")
+    selection_by(words, "run", "group")
 }
 
 /// The runs whose costs are taken off, if such were selected: no answer where they are in two ways.
-pub fn less<'a>(words: &ArgMatches<'a>) -> Option<Option<Selected<'a>>>
+pub fn less<'a>(words: &ArgMatches<'a>) -> Option<Option<Selection<&'a [u8]>>>
     ensures sound { IfSome result (λ less. IfSome less IsSoundSelection) }
     ensures selection { IfSome result (HasLess (rows_of (found_of words.now))) }
 {
-    match selected_by(words, "less-run", "less-group")? {
-        Selected::All => Some(None),
-        Selected::Run(number) => Some(Some(Selected::Run(number))),
-        Selected::Group(name) => Some(Some(Selected::Group(name))),
+    match selection_by(words, "less-run", "less-group")? {
+        Selection::All => Some(None),
+        Selection::Run(number) => Some(Some(Selection::Run(number))),
+        Selection::Group(name) => Some(Some(Selection::Group(name))),
     }
 }
 

@@ -24,7 +24,7 @@ use Rattle.histories.specs.Texts.{groups_text, runs_text}
 use Rattle.histories.specs.declared.answers.Answer.{Answer}
 use Rattle.histories.specs.declared.answers.Answer.TheVariants.{Run, Held, Done, Text, Refused}
 use Rattle.histories.specs.declared.answers.Excess.TheVariants.{SelfCost, CallCost, CallCount}
-use Rattle.histories.specs.declared.answers.Query.TheVariants.{Groups}
+use Rattle.requests.specs.declared.queries.Query.TheVariants.{Groups}
 use Rattle.histories.specs.declared.answers.Refusal.TheVariants as reasons
 use Rattle.histories.specs.declared.limits.Limits.{Limits}
 

@@ -17,9 +17,9 @@ use Rattle.histories.specs.History.{Annotate, Import, Step}
 use Rattle.histories.specs.Legal.{expected_answer, expected_of_query}
 use Rattle.histories.specs.declared.answers.Answer.{Answer}
 use Rattle.histories.specs.declared.answers.Answer.TheVariants.{Run, Text, Refused}
-use Rattle.histories.specs.declared.answers.Query.TheVariants as queries
+use Rattle.requests.specs.declared.queries.Query.TheVariants as queries
 use Rattle.histories.specs.declared.answers.Refusal.TheVariants as reasons
-use Rattle.histories.specs.declared.answers.Selection.TheVariants as selections
+use Rattle.requests.specs.declared.selections.Selection.TheVariants as selections
 use Rattle.histories.proofs.Examples.{standard}
 
 abbrev imported : ℕ → Kind → List ℕ → Step

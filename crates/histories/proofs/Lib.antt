@@ -18,6 +18,7 @@ pub mod Members
 pub mod Put
 pub mod ReadsExpected
 pub mod ReportExamples
+pub mod RequestLemmas
 pub mod Rows
 pub mod Runs
 pub mod Selections

@@ -22,10 +22,10 @@ use Rattle.histories.specs.History.{History, Import, Remove, MakeGroup, Join, Se
 use Rattle.histories.specs.Legal.{expected_of_query}
 use Rattle.histories.specs.declared.answers.Answer.{Answer}
 use Rattle.histories.specs.declared.answers.Answer.TheVariants.{Run, Done, Text, Refused}
-use Rattle.histories.specs.declared.answers.Query.TheVariants.{By, Calls, Inclusive, Subtract, Verify}
+use Rattle.requests.specs.declared.queries.Query.TheVariants.{By, Inclusive, Subtract, Verify}
 use Rattle.histories.specs.declared.answers.Refusal.TheVariants as reasons
-use Rattle.histories.specs.declared.answers.Selection.{Selection}
-use Rattle.histories.specs.declared.answers.Selection.TheVariants as selections
+use Rattle.requests.specs.Plain.{Selection, calls_query}
+use Rattle.requests.specs.declared.selections.Selection.TheVariants as selections
 
 -- ---- files and histories
 
@@ -125,7 +125,7 @@ inclusive_samples_are_told = refl
 -- ---- calls
 
 abbrev calls : CallSide → List ℕ → List ℕ → History → Answer
-calls side event name h = expected_of_query h (Calls selections.All side event (codes "???") name)
+calls side event name h = expected_of_query h (calls_query side selections.All event (codes "???") name)
 
 callers_are_told : calls sides.Callers (codes "Instructions") (codes "func2") (imported 1 Callgrind functions ∷ []) ≡ Text (codes "callers Instructions ???:func2\n700 5 total\n400 3 ???:main\n300 2 ???:func1\n")
 unfolding digits reading_of line_text kind_of name_of number_of amount_of subpos_of

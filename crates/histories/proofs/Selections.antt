@@ -13,8 +13,8 @@ use Rattle.histories.specs.Legal.{IsHistory}
 use Rattle.histories.specs.SelectedRuns.{selects_in, AreSelected, SelectionAgrees}
 use Rattle.histories.specs.Selections.{selects, selected, numbers_of}
 use Rattle.histories.specs.Representation.{AreBooksOf, TablesRepresent}
-use Rattle.histories.specs.declared.answers.Selection.{Selection}
-use Rattle.histories.specs.declared.answers.Selection.TheVariants as selections
+use Rattle.requests.specs.Plain.{Selection}
+use Rattle.requests.specs.declared.selections.Selection.TheVariants as selections
 use Rattle.histories.proofs.Invariants.{IsBefore, numbered}
 use Rattle.histories.proofs.Lists.{pairs_map}
 use Rattle.histories.proofs.Tests.{Pairs, all_on, filter_all, pairs_filter}

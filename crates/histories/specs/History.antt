@@ -5,8 +5,7 @@ use Rattle.histories.specs.Formats.{Format}
 use Rattle.byte_io.specs.Outcomes.{Outcome, bytes_of}
 use Rattle.histories.specs.declared.answers.Answer.{Answer}
 use Rattle.histories.specs.declared.answers.Answer.TheVariants.{Run, Done}
-use Rattle.histories.specs.declared.answers.Query.{Query}
-use Rattle.histories.specs.declared.answers.Selection.{Selection}
+use Rattle.requests.specs.Plain.{Query, Selection}
 
 -- a command; an import, and the annotation of a source by an event and the name of a file, with what the reads of the source came to
 pub data Command : Type 0 where

@@ -4,6 +4,8 @@ use Rattle.std.specs.List.{list_any, AllByRecursion}
 use Rattle.std.specs.Str.{IsUtf8}
 use Rattle.sha2.specs.Sha256.{sha256}
 use Rattle.report_texts.specs.Functions.{function_spot}
+use Rattle.report_texts.specs.declared.call_sides.CallSide.{CallSide}
+use Rattle.report_texts.specs.declared.call_sides.CallSide.TheVariants as sides
 use Rattle.cost_rows.specs.Sums.{Spot}
 use Rattle.cg_text.specs.declared.faults.Fault as faults
 use Rattle.plain_tables.specs.Labels.{IsLabel, IsGroupName}
@@ -20,10 +22,9 @@ use Rattle.histories.specs.declared.limits.Limits.{Limits}
 use Rattle.histories.specs.declared.answers.Answer.{Answer}
 use Rattle.histories.specs.declared.answers.Answer.TheVariants.{Run, Held, Done, Text, Refused}
 use Rattle.histories.specs.declared.answers.Refusal.TheVariants as reasons
-use Rattle.histories.specs.declared.answers.Query.{Query}
-use Rattle.histories.specs.declared.answers.Query.TheVariants as queries
-use Rattle.histories.specs.declared.answers.Selection.{Selection}
-use Rattle.histories.specs.declared.answers.Selection.TheVariants as selections
+use Rattle.requests.specs.Plain.{Query, Selection}
+use Rattle.requests.specs.declared.queries.Query.TheVariants as queries
+use Rattle.requests.specs.declared.selections.Selection.TheVariants as selections
 
 -- ---- the forms of names
 
@@ -134,6 +135,12 @@ abbrev pub files_of : History → Option Selection → List File
 files_of h None = []
 files_of h (Some s) = selected h s
 
+abbrev pub expected_of_calls : History → Selection → CallSide → List ℕ → List ℕ → List ℕ → Answer
+expected_of_calls h selection side event object function =
+    let files = selected h selection in
+    let f = function_spot object function in
+    first_or (no_selection h selection ∷ no_event event files ∷ no_name f files ∷ []) (Text (calls_text side f files event))
+
 abbrev pub expected_of_query : History → Query → Answer
 expected_of_query h queries.Runs = Text (runs_text h)
 expected_of_query h queries.Groups = Text (groups_text h)
@@ -142,10 +149,8 @@ expected_of_query h (queries.By selection key event cut) =
 expected_of_query h (queries.Verify selection) = first_or (no_selection h selection ∷ []) (Text (verified_text (selected h selection)))
 expected_of_query h (queries.Inclusive selection event) =
     first_or (no_selection h selection ∷ no_event event (selected h selection) ∷ []) (Text (inclusive_of_files (selected h selection) event))
-expected_of_query h (queries.Calls selection side event object function) =
-    let files = selected h selection in
-    let f = function_spot object function in
-    first_or (no_selection h selection ∷ no_event event files ∷ no_name f files ∷ []) (Text (calls_text side f files event))
+expected_of_query h (queries.Callers selection event object function) = expected_of_calls h selection sides.Callers event object function
+expected_of_query h (queries.Callees selection event object function) = expected_of_calls h selection sides.Callees event object function
 expected_of_query h (queries.Subtract first second key event) =
     let firsts = selected h first in
     let seconds = files_of h (compared h first second) in

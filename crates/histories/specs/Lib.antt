@@ -6,6 +6,7 @@ pub mod History
 pub mod Legal
 pub mod Marks
 pub mod Reports
+pub mod Requests
 pub mod SelectedRuns
 pub mod Selections
 pub mod Standard

@@ -9,8 +9,8 @@ use Rattle.histories.specs.History.{History, File, held, members}
 use Rattle.histories.specs.Legal.{has_run}
 use Rattle.histories.specs.Selections.{numbers_of, selected}
 use Rattle.histories.specs.Representation.{AreBooksOf}
-use Rattle.histories.specs.declared.answers.Selection.{Selection}
-use Rattle.histories.specs.declared.answers.Selection.TheVariants as selections
+use Rattle.requests.specs.Plain.{Selection}
+use Rattle.requests.specs.declared.selections.Selection.TheVariants as selections
 
 -- ---- in tables
 

@@ -1,8 +1,8 @@
 -- Selections of runs, and the files that they name.
 use Rattle.std.specs.Prelude.{ℕ, Bool, true, ◌==◌, List, map, filter}
 use Rattle.histories.specs.History.{History, File, held, is_member}
-use Rattle.histories.specs.declared.answers.Selection.{Selection}
-use Rattle.histories.specs.declared.answers.Selection.TheVariants as selections
+use Rattle.requests.specs.Plain.{Selection}
+use Rattle.requests.specs.declared.selections.Selection.TheVariants as selections
 
 -- whether it names a run
 abbrev pub selects : History → Selection → ℕ → Bool

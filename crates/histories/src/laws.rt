@@ -25,7 +25,7 @@ ghost use Rattle.histories.specs.Sums.{calls_held};
 ghost use Rattle.histories.specs.Told.{IsHeldAs, SumsFit, GroupAgrees, HeadAgrees, HeldAgrees, RowsAgree, SumsAgree};
 ghost use Rattle.histories.specs.declared.answers.Answer.TheVariants.{Held, Done, Text, Refused};
 ghost use Rattle.histories.specs.declared.answers.Refusal.{Refusal};
-ghost use Rattle.histories.specs.declared.answers.Selection.{Selection};
+ghost use Rattle.requests.specs.Plain.{Selection};
 ghost use Rattle.histories.specs.declared.limits.Limits.{Limits};
 
 /// A history with a legal step more is a history, and so with a list of them; two legal lists one after

@@ -9,7 +9,7 @@ mod laws;
 // How much a warehouse holds.
 mod limits;
 
-pub use answers::{Answer, Excess, Query, Refusal, Selection};
+pub use answers::{Answer, Excess, Refusal};
 pub use laws::{
     an_inserted_file_is_an_import, changes_are_commands, cuts_do_not_show, held_sums_fit,
     histories_grow, members_and_baselines_are_held, tables_represent_each_group,

@@ -16,10 +16,12 @@ use Rattle.http_exchange.specs.declared.statuses.Status.TheVariants as status
 use Rattle.http_exchange.specs.declared.failings.Failing.{Failing}
 use Rattle.http_exchange.specs.declared.failings.Failing.TheVariants.{BadRequest, NotFound, WrongMethod, LengthRequired, TooLong, NoMemory}
 use Rattle.http_exchange.specs.declared.places.Place.TheVariants as at
-use Rattle.http_exchange.specs.declared.asked.Asked.{Asked}
-use Rattle.http_exchange.specs.declared.asked.Asked.TheVariants as asks
-use Rattle.http_exchange.specs.declared.asked.Selected.TheVariants as selected
-use Rattle.http_exchange.specs.declared.requests.Request.{Request}
+use Rattle.http_exchange.specs.Asked.{Asked}
+use Rattle.profile_records.specs.declared.kinds.Kind.TheVariants as kinds
+use Rattle.requests.specs.declared.selections.Selection.TheVariants as selections
+use Rattle.requests.specs.declared.queries.Query.TheVariants as queries
+use Rattle.requests.specs.declared.commands.Command.TheVariants as asks
+use Rattle.http_exchange.specs.declared.checks.Request.{Request}
 
 -- ---- paths
 
@@ -90,11 +92,11 @@ Fails method target failing = request_of 100 (head method target []) ≡ Err fai
 abbrev Imports : List Field → Result Request Failing → Type 0
 Imports fields result = request_of 100 (head (codes "POST") (codes "/runs/folded?label=t") fields) ≡ result
 
-asks_runs : Asks (codes "GET") (codes "/runs?") asks.Runs
+asks_runs : Asks (codes "GET") (codes "/runs?") (asks.Ask queries.Runs)
 unfolding request_of routes matchit_on_literals percent_decode
 asks_runs = refl
 
-asks_groups : Asks (codes "GET") (codes "/groups") asks.Groups
+asks_groups : Asks (codes "GET") (codes "/groups") (asks.Ask queries.Groups)
 unfolding request_of routes matchit_on_literals percent_decode
 asks_groups = refl
 
@@ -131,49 +133,49 @@ asks_baseline : Asks (codes "PUT") (codes "/groups/g/baseline/2147483648") (asks
 unfolding request_of routes matchit_on_literals percent_decode
 asks_baseline = refl
 
-asks_by : Asks (codes "GET") (codes "/reports/function?event=samples") (asks.By selected.All key.Function (codes "samples") (record { limit = None; threshold = 100 }))
+asks_by : Asks (codes "GET") (codes "/reports/function?event=samples") (asks.Ask (queries.By selections.All key.Function (codes "samples") (record { limit = None; threshold = 100 })))
 unfolding request_of routes matchit_on_literals percent_decode
 asks_by = refl
 
 -- values are decoded after the split, and before their digits are looked at
-asks_by_line : Asks (codes "GET") (codes "/reports/line?limit=4&event=I%72%26&run=%31&threshold=0") (asks.By (selected.Run 1) key.Line (codes "Ir&") (record { limit = Some 4; threshold = 0 }))
+asks_by_line : Asks (codes "GET") (codes "/reports/line?limit=4&event=I%72%26&run=%31&threshold=0") (asks.Ask (queries.By (selections.Run 1) key.Line (codes "Ir&") (record { limit = Some 4; threshold = 0 })))
 unfolding request_of routes matchit_on_literals percent_decode
 asks_by_line = refl
 
-asks_by_thread : Asks (codes "GET") (codes "/reports/thread?event=Ir&group=g") (asks.By (selected.Group (codes "g")) key.Thread (codes "Ir") (record { limit = None; threshold = 100 }))
+asks_by_thread : Asks (codes "GET") (codes "/reports/thread?event=Ir&group=g") (asks.Ask (queries.By (selections.Group (codes "g")) key.Thread (codes "Ir") (record { limit = None; threshold = 100 })))
 unfolding request_of routes matchit_on_literals percent_decode
 asks_by_thread = refl
 
-asks_inclusive : Asks (codes "GET") (codes "/inclusive?event=Ir&group=a=b") (asks.Inclusive (selected.Group (codes "a=b")) (codes "Ir"))
+asks_inclusive : Asks (codes "GET") (codes "/inclusive?event=Ir&group=a=b") (asks.Ask (queries.Inclusive (selections.Group (codes "a=b")) (codes "Ir")))
 unfolding request_of routes matchit_on_literals percent_decode
 asks_inclusive = refl
 
-asks_callers : Asks (codes "GET") (codes "/callers?event=Ir&function=f+g") (asks.Calls selected.All side.Callers (codes "Ir") (codes "???") (codes "f+g"))
+asks_callers : Asks (codes "GET") (codes "/callers?event=Ir&function=f+g") (asks.Ask (queries.Callers selections.All (codes "Ir") (codes "???") (codes "f+g")))
 unfolding request_of routes matchit_on_literals percent_decode
 asks_callers = refl
 
-asks_callees : Asks (codes "GET") (codes "/callees?object=&event=Ir&function=f") (asks.Calls selected.All side.Callees (codes "Ir") [] (codes "f"))
+asks_callees : Asks (codes "GET") (codes "/callees?object=&event=Ir&function=f") (asks.Ask (queries.Callees selections.All (codes "Ir") [] (codes "f")))
 unfolding request_of routes matchit_on_literals percent_decode
 asks_callees = refl
 
-asks_subtract : Asks (codes "GET") (codes "/subtract/object?event=Ir&run=2&less_group=g") (asks.Subtract (selected.Run 2) (Some (selected.Group (codes "g"))) key.Object (codes "Ir"))
+asks_subtract : Asks (codes "GET") (codes "/subtract/object?event=Ir&run=2&less_group=g") (asks.Ask (queries.Subtract (selections.Run 2) (Some (selections.Group (codes "g"))) key.Object (codes "Ir")))
 unfolding request_of routes matchit_on_literals percent_decode
 asks_subtract = refl
 
-asks_subtract_baseline : Asks (codes "GET") (codes "/subtract/file?event=Ir&group=g") (asks.Subtract (selected.Group (codes "g")) None key.File (codes "Ir"))
+asks_subtract_baseline : Asks (codes "GET") (codes "/subtract/file?event=Ir&group=g") (asks.Ask (queries.Subtract (selections.Group (codes "g")) None key.File (codes "Ir")))
 unfolding request_of routes matchit_on_literals percent_decode
 asks_subtract_baseline = refl
 
 -- run 0 is a run's number, and never held
-asks_verify : Asks (codes "GET") (codes "/verify?run=0") (asks.Verify (selected.Run 0))
+asks_verify : Asks (codes "GET") (codes "/verify?run=0") (asks.Ask (queries.Verify (selections.Run 0)))
 unfolding request_of routes matchit_on_literals percent_decode
 asks_verify = refl
 
-asks_csv : Asks (codes "GET") (codes "/csv") (asks.Csv selected.All)
+asks_csv : Asks (codes "GET") (codes "/csv") (asks.Ask (queries.Csv selections.All))
 unfolding request_of routes matchit_on_literals percent_decode
 asks_csv = refl
 
-asks_folded : Asks (codes "GET") (codes "/folded?group=g") (asks.Folded (selected.Group (codes "g")))
+asks_folded : Asks (codes "GET") (codes "/folded?group=g") (asks.Ask (queries.Folded (selections.Group (codes "g"))))
 unfolding request_of routes matchit_on_literals percent_decode
 asks_folded = refl
 
@@ -272,11 +274,11 @@ label_missing = refl
 
 -- ---- the length of a body
 
-imports : Imports (field (codes "CONTENT-length") (codes "\t 6 ") ∷ []) (Ok (record { asked = asks.ImportFolded (codes "t"); length = 6 }))
+imports : Imports (field (codes "CONTENT-length") (codes "\t 6 ") ∷ []) (Ok (record { asked = asks.Import kinds.Folded (codes "t") tt; length = 6 }))
 unfolding request_of routes matchit_on_literals percent_decode trim_ows
 imports = refl
 
-imports_as_long_as_may_be : Imports (field (codes "Content-Length") (codes "00000000000000000000100") ∷ []) (Ok (record { asked = asks.ImportFolded (codes "t"); length = 100 }))
+imports_as_long_as_may_be : Imports (field (codes "Content-Length") (codes "00000000000000000000100") ∷ []) (Ok (record { asked = asks.Import kinds.Folded (codes "t") tt; length = 100 }))
 unfolding request_of routes matchit_on_literals percent_decode trim_ows
 imports_as_long_as_may_be = refl
 
@@ -314,7 +316,7 @@ far_too_long = refl
 
 -- a source has a limit of its own
 annotates : request_of 100 (head (codes "POST") (codes "/annotate?event=Ir&file=a.c") (field (codes "Content-Length") (codes "16777216") ∷ []))
-    ≡ Ok (record { asked = asks.Annotate selected.All (codes "Ir") (codes "a.c"); length = 16777216 })
+    ≡ Ok (record { asked = asks.Annotate selections.All (codes "Ir") (codes "a.c") tt; length = 16777216 })
 unfolding request_of routes matchit_on_literals percent_decode trim_ows
 annotates = refl
 

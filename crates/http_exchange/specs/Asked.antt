@@ -17,10 +17,17 @@ use Rattle.http_exchange.specs.declared.places.Place.{Place}
 use Rattle.http_exchange.specs.declared.places.Place.TheVariants as at
 use Rattle.http_exchange.specs.declared.places.Method.{Method}
 use Rattle.http_exchange.specs.declared.places.Method.TheVariants.{Get, Post, Put, Delete}
-use Rattle.http_exchange.specs.declared.asked.Selected.{Selected}
-use Rattle.http_exchange.specs.declared.asked.Selected.TheVariants as selected
-use Rattle.http_exchange.specs.declared.asked.Asked.{Asked}
-use Rattle.http_exchange.specs.declared.asked.Asked.TheVariants as asks
+use Rattle.profile_records.specs.declared.kinds.Kind.{Kind}
+use Rattle.profile_records.specs.declared.kinds.Kind.TheVariants as kinds
+use Rattle.requests.specs.Plain.{Selection, calls_query}
+use Rattle.requests.specs.declared.selections.Selection.TheVariants as selections
+use Rattle.requests.specs.declared.queries.Query.TheVariants as queries
+use Rattle.requests.specs.declared.commands.Command as commands
+use Rattle.requests.specs.declared.commands.Command.TheVariants as asks
+
+-- a command, but for the bytes of its body
+abbrev pub Asked : Type 0
+Asked = commands.Command (Unit {0}) (List ℕ)
 
 abbrev pub value_of : Name → Given → Option (List ℕ)
 value_of = parameters.value_of
@@ -38,26 +45,26 @@ or_bad None = Err BadRequest
 abbrev pub number_in : ℕ → List ℕ → Result ℕ Failing
 number_in bound value = or_bad (number_of bound (percent_decode value))
 
-abbrev pub some_run : List ℕ → Result (Option Selected) Failing
-some_run value = and_then (number_in run_bound value) (λ n. Ok (Some (selected.Run n)))
+abbrev pub some_run : List ℕ → Result (Option Selection) Failing
+some_run value = and_then (number_in run_bound value) (λ n. Ok (Some (selections.Run n)))
 
 -- a run or a group, by the values of two parameters; not both
-abbrev pub run_or_group : Option (List ℕ) → Option (List ℕ) → Result (Option Selected) Failing
+abbrev pub run_or_group : Option (List ℕ) → Option (List ℕ) → Result (Option Selection) Failing
 run_or_group (Some run) (Some group) = Err BadRequest
 run_or_group (Some run) None = some_run run
-run_or_group None (Some group) = Ok (Some (selected.Group (percent_decode group)))
+run_or_group None (Some group) = Ok (Some (selections.Group (percent_decode group)))
 run_or_group None None = Ok None
 
-abbrev pub or_all : Option Selected → Result Selected Failing
+abbrev pub or_all : Option Selection → Result Selection Failing
 or_all (Some one) = Ok one
-or_all None = Ok selected.All
+or_all None = Ok selections.All
 
 -- which runs
-abbrev pub selected_by : Given → Result Selected Failing
+abbrev pub selected_by : Given → Result Selection Failing
 selected_by given = and_then (run_or_group (value_of is.Run given) (value_of is.Group given)) or_all
 
 -- the second ones
-abbrev pub less_by : Given → Result (Option Selected) Failing
+abbrev pub less_by : Given → Result (Option Selection) Failing
 less_by given = run_or_group (value_of is.LessRun given) (value_of is.LessGroup given)
 
 abbrev pub limit_in : Option (List ℕ) → Result (Option ℕ) Failing
@@ -79,39 +86,42 @@ abbrev pub object_in : Option (List ℕ) → List ℕ
 object_in (Some value) = percent_decode value
 object_in None = codes "???"
 
+abbrev pub import_by : Kind → Given → Result Asked Failing
+import_by kind given = and_then (text_of (value_of is.Label given)) (λ label. Ok (asks.Import kind label tt))
+
 abbrev pub report_by : Key → Given → Result Asked Failing
 report_by key given =
     and_then (text_of (value_of is.Event given)) (λ event.
     and_then (selected_by given) (λ selection.
     and_then (cut_by given) (λ cut.
-    Ok (asks.By selection key event cut))))
+    Ok (asks.Ask (queries.By selection key event cut)))))
 
 abbrev pub inclusive_by : Given → Result Asked Failing
 inclusive_by given =
     and_then (text_of (value_of is.Event given)) (λ event.
     and_then (selected_by given) (λ selection.
-    Ok (asks.Inclusive selection event)))
+    Ok (asks.Ask (queries.Inclusive selection event))))
 
 abbrev pub calls_by : CallSide → Given → Result Asked Failing
 calls_by side given =
     and_then (text_of (value_of is.Event given)) (λ event.
     and_then (text_of (value_of is.Function given)) (λ function.
     and_then (selected_by given) (λ selection.
-    Ok (asks.Calls selection side event (object_in (value_of is.Object given)) function))))
+    Ok (asks.Ask (calls_query side selection event (object_in (value_of is.Object given)) function)))))
 
 abbrev pub annotate_by : Given → Result Asked Failing
 annotate_by given =
     and_then (text_of (value_of is.Event given)) (λ event.
     and_then (text_of (value_of is.File given)) (λ file.
     and_then (selected_by given) (λ selection.
-    Ok (asks.Annotate selection event file))))
+    Ok (asks.Annotate selection event file tt))))
 
 abbrev pub subtract_by : Key → Given → Result Asked Failing
 subtract_by key given =
     and_then (text_of (value_of is.Event given)) (λ event.
     and_then (selected_by given) (λ first.
     and_then (less_by given) (λ second.
-    Ok (asks.Subtract first second key event))))
+    Ok (asks.Ask (queries.Subtract first second key event)))))
 
 -- ---- what stands in a path
 
@@ -146,10 +156,10 @@ baseline_of path = asks.SetBaseline (group_in path) (run_in 4 path)
 
 -- what is asked at a place by one of its methods
 abbrev pub asked_of : Place → Method → List ℕ → Given → Result Asked Failing
-asked_of at.CallgrindRuns method path given = and_then (text_of (value_of is.Label given)) (λ label. Ok (asks.ImportCallgrind label))
-asked_of at.FoldedRuns method path given = and_then (text_of (value_of is.Label given)) (λ label. Ok (asks.ImportFolded label))
-asked_of at.Runs method path given = Ok asks.Runs
-asked_of at.Groups method path given = Ok asks.Groups
+asked_of at.CallgrindRuns method path given = import_by kinds.Callgrind given
+asked_of at.FoldedRuns method path given = import_by kinds.Folded given
+asked_of at.Runs method path given = Ok (asks.Ask queries.Runs)
+asked_of at.Groups method path given = Ok (asks.Ask queries.Groups)
 asked_of at.OneRun method path given = Ok (asks.Remove (run_in 2 path))
 asked_of at.OneGroup method path given = Ok (of_group method path)
 asked_of at.Member method path given = Ok (of_member method path)
@@ -159,6 +169,6 @@ asked_of at.Inclusive method path given = inclusive_by given
 asked_of (at.Calls side) method path given = calls_by side given
 asked_of at.Annotate method path given = annotate_by given
 asked_of (at.Subtract key) method path given = subtract_by key given
-asked_of at.Verify method path given = and_then (selected_by given) (λ selection. Ok (asks.Verify selection))
-asked_of at.Csv method path given = and_then (selected_by given) (λ selection. Ok (asks.Csv selection))
-asked_of at.Folded method path given = and_then (selected_by given) (λ selection. Ok (asks.Folded selection))
+asked_of at.Verify method path given = and_then (selected_by given) (λ selection. Ok (asks.Ask (queries.Verify selection)))
+asked_of at.Csv method path given = and_then (selected_by given) (λ selection. Ok (asks.Ask (queries.Csv selection)))
+asked_of at.Folded method path given = and_then (selected_by given) (λ selection. Ok (asks.Ask (queries.Folded selection)))

@@ -6,7 +6,7 @@ use Rattle.http_exchange.specs.Texts.{front_of, rest_of}
 use Rattle.http_exchange.specs.Places.{methods_of, method_in}
 use Rattle.http_exchange.specs.Routes.{place_of}
 use Rattle.http_exchange.specs.Parameters.{Given, names_of, given_by}
-use Rattle.http_exchange.specs.Asked.{asked_of}
+use Rattle.http_exchange.specs.Asked.{Asked, asked_of}
 use Rattle.http_exchange.specs.Lengths.{body_length}
 use Rattle.http_exchange.specs.Failings.{and_then}
 use Rattle.http_exchange.specs.declared.failings.Failing.{Failing}
@@ -14,8 +14,7 @@ use Rattle.http_exchange.specs.declared.failings.Failing.TheVariants.{BadRequest
 use Rattle.http_exchange.specs.declared.places.Place.{Place}
 use Rattle.http_exchange.specs.declared.places.Place.TheVariants as at
 use Rattle.http_exchange.specs.declared.places.Method.{Method}
-use Rattle.http_exchange.specs.declared.asked.Asked.{Asked}
-use Rattle.http_exchange.specs.declared.requests.Request.{Request}
+use Rattle.http_exchange.specs.declared.checks.Request.{Request}
 
 -- how many bytes a body has at most, where files have at most `limit`; none where no body is read
 abbrev pub body_limit : ℕ → Place → Option ℕ

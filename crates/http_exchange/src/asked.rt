@@ -14,69 +14,16 @@ use crate::texts::part;
 use cg_text::ListVec;
 use cost_rows::Key;
 use percent_encoding::percent_decode;
+use profile_records::Kind;
 use report_texts::{CallSide, Cut};
+use requests::{Command, Query, Selection};
 use std::alloc::{AllocError, Global};
 
-/// Which runs a request is about.
-#[derive(Drop)]
-pub enum Selected {
-    All,
-    Run(u32),
-    /// The members of the group of this name.
-    Group(ListVec<u8>),
-}
-
 /// What a request asks for, but for its body.
-#[derive(Drop)]
-pub enum Asked {
-    /// The body is a Callgrind file, to be held under this label.
-    ImportCallgrind(ListVec<u8>),
-    /// The body is folded stacks, to be held under this label.
-    ImportFolded(ListVec<u8>),
-    Runs,
-    Groups,
-    /// A run is to be removed.
-    Remove(u32),
-    MakeGroup(ListVec<u8>),
-    DropGroup(ListVec<u8>),
-    /// The run is to be a member of the group.
-    Join(ListVec<u8>, u32),
-    Leave(ListVec<u8>, u32),
-    /// The run is to be the baseline of the group.
-    SetBaseline(ListVec<u8>, u32),
-    By {
-        selected: Selected,
-        key: Key,
-        event: ListVec<u8>,
-        cut: Cut,
-    },
-    Inclusive {
-        selected: Selected,
-        event: ListVec<u8>,
-    },
-    Calls {
-        selected: Selected,
-        side: CallSide,
-        event: ListVec<u8>,
-        object: ListVec<u8>,
-        function: ListVec<u8>,
-    },
-    /// The body is the source of this file.
-    Annotate {
-        selected: Selected,
-        event: ListVec<u8>,
-        file: ListVec<u8>,
-    },
-    Subtract {
-        first: Selected,
-        second: Option<Selected>,
-        key: Key,
-        event: ListVec<u8>,
-    },
-    Verify(Selected),
-    Csv(Selected),
-    Folded(Selected),
-}
+pub type Asked = Command<(), ListVec<u8>>;
+
+/// Which runs a request is about.
+type Selected = Selection<ListVec<u8>>;
 
 /// A text, percent-decoded.
 fn decoded(alloc: Global, text: &[u8]) -> Result<ListVec<u8>, Failing>
@@ -112,7 +59,7 @@ fn run(alloc: Global, value: &[u8]) -> Result<Option<Selected>, Failing>
     ensures { IsMet (spec.some_run value.now) result }
 {
     let number = number_in(alloc, RUN_BOUND, value)?;
-    Ok(Some(Selected::Run(number as u32)))
+    Ok(Some(Selection::Run(number as u32)))
 }
 
 /// A run or a group, by the values of two parameters; `None` where neither is given.
@@ -129,7 +76,7 @@ fn run_or_group(
             None => run(alloc, value),
         },
         None => match group_value {
-            Some(value) => Ok(Some(Selected::Group(decoded(alloc, value)?))),
+            Some(value) => Ok(Some(Selection::Group(decoded(alloc, value)?))),
             None => Ok(None),
         },
     }
@@ -141,7 +88,7 @@ fn selected_by(alloc: Global, given: &Given<'_>) -> Result<Selected, Failing>
 {
     match run_or_group(alloc, given.value(Name::Run), given.value(Name::Group))? {
         Some(one) => Ok(one),
-        None => Ok(Selected::All),
+        None => Ok(Selection::All),
     }
 }
 
@@ -180,19 +127,31 @@ fn threshold(alloc: Global, value: Option<&[u8]>) -> Result<u8, Failing>
     }
 }
 
+/// The import of a file, which is the body.
+fn import(alloc: Global, kind: Kind, given: &Given<'_>) -> Result<Asked, Failing>
+    ensures { IsMet (spec.import_by kind given.now) result }
+{
+    let label = text(alloc, given, Name::Label)?;
+    Ok(Command::Import {
+        kind,
+        label,
+        source: (),
+    })
+}
+
 /// A report by a key.
 fn by(alloc: Global, key: Key, given: &Given<'_>) -> Result<Asked, Failing>
     ensures { IsMet (spec.report_by key given.now) result }
 {
     let event = text(alloc, given, Name::Event)?;
-    let selected = selected_by(alloc, given)?;
+    let selection = selected_by(alloc, given)?;
     let cut = cut(alloc, given)?;
-    Ok(Asked::By {
-        selected,
+    Ok(Command::Ask(Query::By {
+        selection,
         key,
         event,
         cut,
-    })
+    }))
 }
 
 /// A report of inclusive costs.
@@ -200,8 +159,8 @@ fn inclusive(alloc: Global, given: &Given<'_>) -> Result<Asked, Failing>
     ensures { IsMet (spec.inclusive_by given.now) result }
 {
     let event = text(alloc, given, Name::Event)?;
-    let selected = selected_by(alloc, given)?;
-    Ok(Asked::Inclusive { selected, event })
+    let selection = selected_by(alloc, given)?;
+    Ok(Command::Ask(Query::Inclusive { selection, event }))
 }
 
 /// The object of a function, `???` where it is not given.
@@ -224,14 +183,22 @@ fn calls(alloc: Global, side: CallSide, given: &Given<'_>) -> Result<Asked, Fail
     let event = text(alloc, given, Name::Event)?;
     let function = text(alloc, given, Name::Function)?;
     let object = object(alloc, given.value(Name::Object))?;
-    let selected = selected_by(alloc, given)?;
-    Ok(Asked::Calls {
-        selected,
-        side,
-        event,
-        object,
-        function,
-    })
+    let selection = selected_by(alloc, given)?;
+    let query = match side {
+        CallSide::Callers => Query::Callers {
+            selection,
+            event,
+            object,
+            function,
+        },
+        CallSide::Callees => Query::Callees {
+            selection,
+            event,
+            object,
+            function,
+        },
+    };
+    Ok(Command::Ask(query))
 }
 
 /// The listing of a source, which is the body.
@@ -240,11 +207,12 @@ fn annotate(alloc: Global, given: &Given<'_>) -> Result<Asked, Failing>
 {
     let event = text(alloc, given, Name::Event)?;
     let file = text(alloc, given, Name::File)?;
-    let selected = selected_by(alloc, given)?;
-    Ok(Asked::Annotate {
-        selected,
+    let selection = selected_by(alloc, given)?;
+    Ok(Command::Annotate {
+        selection,
         event,
         file,
+        source: (),
     })
 }
 
@@ -257,12 +225,12 @@ fn subtract(alloc: Global, key: Key, given: &Given<'_>) -> Result<Asked, Failing
     let less_run = given.value(Name::LessRun);
     let less_group = given.value(Name::LessGroup);
     let second = run_or_group(alloc, less_run, less_group)?;
-    Ok(Asked::Subtract {
+    Ok(Command::Ask(Query::Subtract {
         first,
         second,
         key,
         event,
-    })
+    }))
 }
 
 /// Whether a method is `PUT`.
@@ -283,9 +251,9 @@ fn of_group(alloc: Global, method: Method, path: &[u8]) -> Result<Asked, Failing
 {
     let group = decoded(alloc, part(path, 2))?;
     if is_put(method) {
-        Ok(Asked::MakeGroup(group))
+        Ok(Command::MakeGroup(group))
     } else {
-        Ok(Asked::DropGroup(group))
+        Ok(Command::DropGroup(group))
     }
 }
 
@@ -296,9 +264,9 @@ fn of_member(alloc: Global, method: Method, path: &[u8]) -> Result<Asked, Failin
     let group = decoded(alloc, part(path, 2))?;
     let number = run_in_path(part(path, 4));
     if is_put(method) {
-        Ok(Asked::Join(group, number))
+        Ok(Command::Join(group, number))
     } else {
-        Ok(Asked::Leave(group, number))
+        Ok(Command::Leave(group, number))
     }
 }
 
@@ -307,7 +275,7 @@ fn baseline(alloc: Global, path: &[u8]) -> Result<Asked, Failing>
     ensures { IsMet (Ok (spec.baseline_of path.now)) result }
 {
     let group = decoded(alloc, part(path, 2))?;
-    Ok(Asked::SetBaseline(group, run_in_path(part(path, 4))))
+    Ok(Command::SetBaseline(group, run_in_path(part(path, 4))))
 }
 
 /// What is asked at a place by one of its methods, with these parameters.
@@ -321,11 +289,11 @@ pub(crate) fn asked_at(
     ensures { IsMet (spec.asked_of place method path.now given.now) result }
 {
     match place {
-        Place::CallgrindRuns => Ok(Asked::ImportCallgrind(text(alloc, given, Name::Label)?)),
-        Place::FoldedRuns => Ok(Asked::ImportFolded(text(alloc, given, Name::Label)?)),
-        Place::Runs => Ok(Asked::Runs),
-        Place::Groups => Ok(Asked::Groups),
-        Place::OneRun => Ok(Asked::Remove(run_in_path(part(path, 2)))),
+        Place::CallgrindRuns => import(alloc, Kind::Callgrind, given),
+        Place::FoldedRuns => import(alloc, Kind::Folded, given),
+        Place::Runs => Ok(Command::Ask(Query::Runs)),
+        Place::Groups => Ok(Command::Ask(Query::Groups)),
+        Place::OneRun => Ok(Command::Remove(run_in_path(part(path, 2)))),
         Place::OneGroup => of_group(alloc, method, path),
         Place::Member => of_member(alloc, method, path),
         Place::Baseline => baseline(alloc, path),
@@ -334,8 +302,8 @@ pub(crate) fn asked_at(
         Place::Calls(side) => calls(alloc, side, given),
         Place::Annotate => annotate(alloc, given),
         Place::Subtract(key) => subtract(alloc, key, given),
-        Place::Verify => Ok(Asked::Verify(selected_by(alloc, given)?)),
-        Place::Csv => Ok(Asked::Csv(selected_by(alloc, given)?)),
-        Place::Folded => Ok(Asked::Folded(selected_by(alloc, given)?)),
+        Place::Verify => Ok(Command::Ask(Query::Verify(selected_by(alloc, given)?))),
+        Place::Csv => Ok(Command::Ask(Query::Csv(selected_by(alloc, given)?))),
+        Place::Folded => Ok(Command::Ask(Query::Folded(selected_by(alloc, given)?))),
     }
 }

@@ -24,7 +24,7 @@ mod places;
 // The head of a request is read (specs/Received.antt).
 mod receiving;
 // From a head to what is asked, by the checks in their order (specs/Requests.antt).
-mod requests;
+mod checks;
 // The bytes of a response (specs/Responses.antt).
 mod responses;
 // The routes, as `matchit` keeps them (specs/Routes.antt).
@@ -38,13 +38,13 @@ mod streams;
 // Texts cut at a byte (specs/Texts.antt).
 mod texts;
 
-pub use asked::{Asked, Selected};
+pub use asked::Asked;
 pub use bodies::{Body, body_comes};
 pub use failings::Failing;
 pub use heads::{FIELD_LIMIT, HEAD_LIMIT, Head, find_head};
 pub use places::{Method, Place};
 pub use receiving::{HeadEnd, read_head};
-pub use requests::{Request, SOURCE_LIMIT, read_request};
+pub use checks::{Request, SOURCE_LIMIT, read_request};
 pub use responses::{RESPONSE_HEAD_ROOM, put_head};
 pub use routing::routes;
 pub use sending::{RESPONSE_ROOM, send, write_all};

@@ -15,18 +15,18 @@ use Rattle.histories.specs.History.{Command}
 use Rattle.histories.specs.declared.answers.Answer.{Answer}
 use Rattle.histories.specs.declared.answers.Answer.TheVariants as answers
 use Rattle.histories.specs.declared.answers.Excess.TheVariants as excesses
-use Rattle.histories.specs.declared.answers.Query.TheVariants as queries
+use Rattle.requests.specs.declared.queries.Query.TheVariants as queries
 use Rattle.histories.specs.declared.answers.Refusal.{Refusal}
 use Rattle.histories.specs.declared.answers.Refusal.TheVariants as reasons
-use Rattle.histories.specs.declared.answers.Selection.TheVariants as selections
+use Rattle.requests.specs.declared.selections.Selection.TheVariants as selections
 use Rattle.answer_lines.specs.Answers.{line_text}
 use Rattle.http_exchange.specs.Requests.{request_of}
 use Rattle.http_exchange.specs.Responses.{head_text, response_text}
 use Rattle.http_exchange.specs.Routes.{routes}
 use Rattle.http_exchange.specs.declared.failings.Failing.{Failing}
-use Rattle.http_exchange.specs.declared.requests.Request.{Request}
+use Rattle.http_exchange.specs.declared.checks.Request.{Request}
 use Rattle.http_service.specs.Replies.{status_of}
-use Rattle.http_service.specs.Tasks.{command_from}
+use Rattle.histories.specs.Requests.{command_read}
 
 -- ---- the command of a request
 
@@ -39,7 +39,7 @@ six = record { name = codes "Content-Length"; raw = codes "6"; end = crlf } ∷ 
 
 -- the command that is run, over that body, and none where a check fails
 abbrev said_to : Result Request Failing → Option Command
-said_to (Ok request) = Some (command_from request.asked body)
+said_to (Ok request) = Some (command_read request.asked body)
 said_to (Err failing) = None
 
 abbrev Says : List ℕ → List ℕ → List Field → Command → Type 0
@@ -93,11 +93,11 @@ says_inclusive : Says (codes "GET") (codes "/inclusive?event=Ir&group=g") [] (hi
 unfolding request_of routes matchit_on_literals percent_decode
 says_inclusive = refl
 
-says_callers : Says (codes "GET") (codes "/callers?event=Ir&object=o&function=f") [] (history.Ask (queries.Calls selections.All side.Callers (codes "Ir") (codes "o") (codes "f")))
+says_callers : Says (codes "GET") (codes "/callers?event=Ir&object=o&function=f") [] (history.Ask (queries.Callers selections.All (codes "Ir") (codes "o") (codes "f")))
 unfolding request_of routes matchit_on_literals percent_decode
 says_callers = refl
 
-says_callees : Says (codes "GET") (codes "/callees?event=Ir&object=o&function=f") [] (history.Ask (queries.Calls selections.All side.Callees (codes "Ir") (codes "o") (codes "f")))
+says_callees : Says (codes "GET") (codes "/callees?event=Ir&object=o&function=f") [] (history.Ask (queries.Callees selections.All (codes "Ir") (codes "o") (codes "f")))
 unfolding request_of routes matchit_on_literals percent_decode
 says_callees = refl
 

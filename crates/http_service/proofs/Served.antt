@@ -10,7 +10,7 @@ use Rattle.histories.specs.declared.limits.Limits.{Limits}
 use Rattle.store_histories.specs.Answered.{Links}
 use Rattle.store_histories.proofs.Links.{links_append, links_clean, links_legal, links_after}
 use Rattle.http_exchange.specs.declared.failings.Failing.{Failing}
-use Rattle.http_exchange.specs.declared.requests.Request.{Request}
+use Rattle.http_exchange.specs.declared.checks.Request.{Request}
 use Rattle.http_exchange.specs.Streams.{Written, Writes}
 use Rattle.http_service.specs.Exchanges.{IsReplied, WasExchanged}
 use Rattle.http_service.specs.declared.replies.Exchange.{Exchange}

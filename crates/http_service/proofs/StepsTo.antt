@@ -8,10 +8,10 @@ use Rattle.histories.specs.declared.answers.Answer.{Answer}
 use Rattle.histories.specs.declared.limits.Limits.{Limits}
 use Rattle.store_histories.specs.Answered.{Links}
 use Rattle.http_exchange.specs.declared.failings.Failing.{Failing}
-use Rattle.http_exchange.specs.declared.requests.Request.{Request}
+use Rattle.http_exchange.specs.declared.checks.Request.{Request}
 use Rattle.http_exchange.specs.Streams.{Written}
 use Rattle.http_service.specs.Exchanges.{IsReplied, WasExchanged}
-use Rattle.http_service.specs.Tasks.{command_from}
+use Rattle.histories.specs.Requests.{command_read}
 use Rattle.http_service.specs.declared.replies.Exchange.{Exchange}
 
 module _ {S : Type 0} (g : Ghosts S) (limits : Limits) where
@@ -27,7 +27,7 @@ module _ {S : Type 0} (g : Ghosts S) (limits : Limits) where
 
   stepped_by : (wanted : Result Request Failing) (after : List ℕ) (reads : List Outcome) (reply : Result Answer Failing) (old new : S) → IsReplied g limits wanted after reads reply old new → IsFaithful g new → Stepped old new
   stepped_by wanted after reads (Ok answer) old new done clean =
-      let step : Step = record { command = command_from done.request.asked done.outcomes; answer = answer } in (step ∷ [], within, (new, done.answers clean, refl))
+      let step : Step = record { command = command_read done.request.asked done.outcomes; answer = answer } in (step ∷ [], within, (new, done.answers clean, refl))
   stepped_by wanted after reads (Err failing) old new away clean = ([], none, sym away.same)
 
   pub exchange_stepped : {T : Type 0} (reads : T → Outcome → T → Type 0) (writes : T → Written → T → Type 0) (hears : T → T → Type 0) (exchange : Exchange) (from to : T) (old new : S)

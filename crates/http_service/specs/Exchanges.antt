@@ -12,12 +12,12 @@ use Rattle.http_exchange.specs.Heads.{BeginsWith}
 use Rattle.http_exchange.specs.Requests.{request_of}
 use Rattle.http_exchange.specs.declared.failings.Failing.{Failing}
 use Rattle.http_exchange.specs.declared.failings.Failing.TheVariants.{BadRequest, NoMemory}
-use Rattle.http_exchange.specs.declared.requests.Request.{Request}
+use Rattle.http_exchange.specs.declared.checks.Request.{Request}
 use Rattle.http_exchange.specs.Streams.{Written, Writes}
 use Rattle.http_exchange.specs.Received.{IsBadHead, IsCutOff, WereAwaited}
 use Rattle.http_exchange.specs.Bodies.{IsBodyOf}
 use Rattle.http_service.specs.Replies.{IsFailingSent, IsReplySent}
-use Rattle.http_service.specs.Tasks.{command_from}
+use Rattle.histories.specs.Requests.{command_read}
 use Rattle.http_service.specs.declared.replies.Exchange.{Exchange}
 use Rattle.http_service.specs.declared.replies.Exchange.TheVariants as exchanges
 
@@ -28,7 +28,7 @@ module _ {S : Type 0} (g : Ghosts S) (limits : Limits) where
     pub is_wanted : wanted ≡ Ok request
     pub outcomes : List Outcome
     pub body : IsBodyOf request.length after reads outcomes
-    pub answers : IsFaithful g new → Answers g limits (command_from request.asked outcomes) answer old new
+    pub answers : IsFaithful g new → Answers g limits (command_read request.asked outcomes) answer old new
 
   -- no command was run: a check failed, or there was no memory for the request; nothing more was read
   pub record IsTurnedAway (wanted : Result Request Failing) (reads : List Outcome) (failing : Failing) (old new : S) : Type 0 where

@@ -2,4 +2,3 @@ pub mod Exchanges
 pub mod Performed
 pub mod Replies
 pub mod Served
-pub mod Tasks

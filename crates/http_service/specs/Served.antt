@@ -11,9 +11,9 @@ use Rattle.histories.specs.declared.limits.Limits.{Limits}
 use Rattle.histories.specs.Standard.{IsStandard}
 use Rattle.store_histories.specs.Answered.{HasHistory, Links}
 use Rattle.http_exchange.specs.declared.failings.Failing.{Failing}
-use Rattle.http_exchange.specs.declared.requests.Request.{Request}
+use Rattle.http_exchange.specs.declared.checks.Request.{Request}
 use Rattle.http_service.specs.Exchanges.{IsReplied, WasExchanged}
-use Rattle.http_service.specs.Tasks.{command_from}
+use Rattle.histories.specs.Requests.{command_read}
 use Rattle.http_service.specs.declared.replies.Exchange.{Exchange}
 
 module _ {S : Type 0} (g : Ghosts S) (limits : Limits) where
@@ -30,7 +30,7 @@ module _ {S : Type 0} (g : Ghosts S) (limits : Limits) where
 
   -- the command of a request, with its answer; a request that was turned away has none
   abbrev pub steps_of_reply : (wanted : Result Request Failing) (after : List ℕ) (reads : List Outcome) (reply : Result Answer Failing) (old new : S) → IsReplied g limits wanted after reads reply old new → History
-  steps_of_reply wanted after reads (Ok answer) old new done = record { command = command_from done.request.asked done.outcomes; answer = answer } ∷ []
+  steps_of_reply wanted after reads (Ok answer) old new done = record { command = command_read done.request.asked done.outcomes; answer = answer } ∷ []
   steps_of_reply wanted after reads (Err failing) old new away = []
 
   -- what is no request, or did not come whole, has none either

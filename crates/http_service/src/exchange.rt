@@ -4,126 +4,58 @@ ghost use Rattle.httparse.specs.Grammar.{RequestHead};
 ghost use Rattle.httparse.specs.Spans.{IsRequestWithin};
 ghost use Rattle.byte_io.specs.Outcomes.{Outcome};
 ghost use Rattle.byte_io.specs.Reads.{Reads};
-ghost use Rattle.histories.specs.Formats.{today};
-ghost use Rattle.histories.specs.History.{Annotate, Ask, Import};
+ghost use Rattle.histories.specs.History.{Ask};
+ghost use Rattle.histories.specs.Requests.{command_read};
 ghost use Rattle.histories.specs.declared.answers.Answer as given;
-ghost use Rattle.histories.specs.declared.answers.Query.TheVariants.{Csv};
-ghost use Rattle.warehouse.specs.Answered.{WasAnswered};
+ghost use Rattle.requests.specs.Plain.{plain_command, plain_selection};
+ghost use Rattle.requests.specs.declared.queries.Query.TheVariants.{Csv};
 ghost use Rattle.http_exchange.specs.Heads.{IsHeadAt};
 ghost use Rattle.http_exchange.specs.Requests.{request_of};
 ghost use Rattle.http_exchange.specs.Routes as spec;
-ghost use Rattle.http_exchange.specs.Bodies.{BodyRead};
 ghost use Rattle.http_exchange.specs.declared.failings.Failing as check;
 ghost use Rattle.http_service.specs.Exchanges.{IsReplied, IsResponded, WasExchanged};
 ghost use Rattle.http_service.specs.Performed.{IsDoneOver, IsFulfilled};
 ghost use Rattle.http_service.specs.Replies.{Says};
-ghost use Rattle.http_service.specs.Tasks.{command_from_task};
 
 use crate::replies::{Exchange, Reply, send_failing, send_reply};
 use crate::rooms::Room;
-use crate::tasks::{Task, task_of};
-use cg_text::ListVec;
-use histories::{Answer, Query, Selection};
+use histories::Answer;
 use http_exchange::{
     Body, Failing, HeadEnd, Place, RESPONSE_ROOM, Stream, body_comes, read_head, read_request,
 };
 use httparse::spans::{HeaderSpan, RequestSpans};
 use matchit::Router;
-use profile_records::Kind;
+use requests::{Command, Query, Selection};
 use run_stores::RunStore;
 use std::alloc::Global;
-use warehouse::{Command, Warehouse};
-
-/// Imports a body, and hands the stream back.
-fn import<T: Stream + Drop, S: RunStore>(
-    alloc: Global,
-    warehouse: &mut Warehouse<S>,
-    kind: Kind,
-    label: &[u8],
-    body: Body<'_, T>,
-) -> (Answer, T)
-    ensures limits { warehouse.new.limits ≡ warehouse.old.limits }
-    ensures done { IsDoneOver S.StoreState T.reads warehouse.old.limits (Import (today kind) label.now) body.entry
-        result.0 result.1 warehouse.old.store warehouse.new.store }
-{
-    let mut body = body;
-    let answer = warehouse.import(alloc, kind, label, &mut body);
-    let Body { stream, .. } = body;
-    (answer, stream)
-}
-
-/// Annotates a body, and hands the stream back.
-fn annotate<T: Stream + Drop, S: RunStore>(
-    alloc: Global,
-    warehouse: &mut Warehouse<S>,
-    selection: Selection,
-    event: ListVec<u8>,
-    file: ListVec<u8>,
-    body: Body<'_, T>,
-) -> (Answer, T)
-    ensures limits { warehouse.new.limits ≡ warehouse.old.limits }
-    ensures done { IsDoneOver S.StoreState T.reads warehouse.old.limits (Annotate selection event file) body.entry
-        result.0 result.1 warehouse.old.store warehouse.new.store }
-{
-    let mut body = body;
-    let answer = warehouse.annotate(alloc, selection, event, file, &mut body);
-    let Body { stream, .. } = body;
-    (answer, stream)
-}
-
-/// Runs a command that reads no body, and hands the stream back.
-fn apply<T: Stream + Drop, S: RunStore>(
-    alloc: Global,
-    warehouse: &mut Warehouse<S>,
-    command: Command<Body<'_, T>>,
-    body: Body<'_, T>,
-) -> (Answer, T)
-    ensures limits { warehouse.new.limits ≡ warehouse.old.limits }
-    ensures answered { WasAnswered S.StoreState (BodyRead T.reads) warehouse.old.limits command.entry
-        result.0 warehouse.old.store warehouse.new.store }
-    ensures stream { result.1 ≡ body.entry.stream }
-{
-    let answer = warehouse.apply(alloc, command);
-    let Body { stream, .. } = body;
-    (answer, stream)
-}
+use warehouse::Warehouse;
 
 /// Does what is asked over a body, and hands the stream back.
 fn perform<T: Stream + Drop, S: RunStore>(
     alloc: Global,
     warehouse: &mut Warehouse<S>,
-    task: Task,
+    command: &Command<(), &[u8]>,
     body: Body<'_, T>,
 ) -> (Answer, T)
     ensures limits { warehouse.new.limits ≡ warehouse.old.limits }
-    ensures done { IsDoneOver S.StoreState T.reads warehouse.old.limits (command_from_task task) body.entry
+    ensures done { IsDoneOver S.StoreState T.reads warehouse.old.limits (command_read (plain_command command.now)) body.entry
         result.0 result.1 warehouse.old.store warehouse.new.store }
 {
-    match task {
-        Task::Import(kind, label) => import(alloc, warehouse, kind, label.as_slice(), body),
-        Task::Annotate {
-            selection,
-            event,
-            file,
-        } => annotate(alloc, warehouse, selection, event, file, body),
-        Task::Remove(number) => apply(alloc, warehouse, Command::Remove(number), body),
-        Task::Group(name, change) => {
-            let name = name.into_vec();
-            apply(alloc, warehouse, Command::Group(name, change), body)
-        }
-        Task::Ask(query) => apply(alloc, warehouse, Command::Ask(query), body),
-    }
+    let mut body = body;
+    let answer = warehouse.perform(alloc, command, &mut body);
+    let Body { stream, .. } = body;
+    (answer, stream)
 }
 
 /// Sums up what places cost, for a text of CSV, and hands the stream back.
 fn sum_up<T: Stream + Drop, S: RunStore>(
     alloc: Global,
     warehouse: &mut Warehouse<S>,
-    selection: &Selection,
+    selection: &Selection<&[u8]>,
     body: Body<'_, T>,
 ) -> (Reply, T)
     ensures limits { warehouse.new.limits ≡ warehouse.old.limits }
-    ensures done { IsFulfilled S.StoreState T.reads warehouse.old.limits (λ outcomes. Ask (Csv selection.now)) body.entry
+    ensures done { IsFulfilled S.StoreState T.reads warehouse.old.limits (λ outcomes. Ask (Csv (plain_selection selection.now))) body.entry
         result.0 result.1 warehouse.old.store warehouse.new.store }
 {
     let Body { stream, .. } = body;
@@ -137,17 +69,17 @@ fn sum_up<T: Stream + Drop, S: RunStore>(
 fn fulfil<T: Stream + Drop, S: RunStore>(
     alloc: Global,
     warehouse: &mut Warehouse<S>,
-    task: Task,
+    command: &Command<(), &[u8]>,
     body: Body<'_, T>,
 ) -> (Reply, T)
     ensures limits { warehouse.new.limits ≡ warehouse.old.limits }
-    ensures done { IsFulfilled S.StoreState T.reads warehouse.old.limits (command_from_task task) body.entry
+    ensures done { IsFulfilled S.StoreState T.reads warehouse.old.limits (command_read (plain_command command.now)) body.entry
         result.0 result.1 warehouse.old.store warehouse.new.store }
 {
-    if let Task::Ask(Query::Csv(selection)) = &task {
+    if let Command::Ask(Query::Csv(selection)) = command {
         return sum_up(alloc, warehouse, selection, body);
     }
-    let (answer, stream) = perform(alloc, warehouse, task, body);
+    let (answer, stream) = perform(alloc, warehouse, command, body);
     (Reply::Answered(answer), stream)
 }
 
@@ -178,7 +110,7 @@ fn reply_to<T: Stream + Drop, S: RunStore>(
                 held: &bytes[spans.len..],
                 left: request.length,
             };
-            fulfil(alloc, warehouse, task_of(request.asked), body)
+            fulfil(alloc, warehouse, &request.asked.lent(), body)
         }
         Err(failing) => (Reply::Failed(failing), stream),
     }

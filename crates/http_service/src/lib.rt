@@ -14,8 +14,6 @@ mod rooms;
 mod sending;
 // Clients are served, one after another (specs/Served.antt).
 mod serving;
-// What the warehouse is asked for a request (specs/Tasks.antt).
-mod tasks;
 
 pub use exchange::answer;
 pub use replies::Exchange;

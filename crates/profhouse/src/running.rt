@@ -1,4 +1,6 @@
 // What a plan says is done, over the files that it names.
+ghost use Rattle.sessions.specs.Commands.{HasCommands};
+
 use command_line::Plan;
 use file_reading::total_file;
 use http_service::Service;
@@ -7,7 +9,8 @@ use program_stores::{
     Beside, StoreInPages, look_beside, pages_at, pages_to_change_at, pages_to_serve_at,
     serve_in_pages, work_beside, work_in_pages,
 };
-use sessions::{Task, Work, print_total, task_of};
+use sessions::{WordsCommand, commands_of, print_total};
+use std::alloc::AllocError;
 use std::io;
 use std::process::ExitCode;
 use std::rt::HostRuntime;
@@ -26,18 +29,22 @@ fn print_unopened<R: Print>(rt: &R, end: OpenError) -> io::Result<ExitCode> {
 }
 
 /// What is done over the store at a path.
-#[derive(Drop)]
-enum Job<'a> {
-    Work(Work<'a>),
+#[derive(Clone, Copy)]
+enum Job<'c, 'a> {
+    Run(&'c [WordsCommand<'a>]),
     Serve(Service),
 }
 
 /// Does a job over a store in its pages, and copies what was committed from the log into the file; where that fails, it
 /// stands in the log, and the next opening finds it there.
-fn change_pages<'a>(rt: &'a HostRuntime, store: StoreInPages, job: Job<'a>) -> io::Result<u8> {
+fn change_pages<'a>(
+    rt: &'a HostRuntime,
+    store: StoreInPages,
+    job: Job<'_, 'a>,
+) -> io::Result<u8> {
     let (came_to, mut store) = match job {
-        Job::Work(work) => {
-            let (printed, _out, store) = work_in_pages(rt, io::writer(rt), store, work);
+        Job::Run(commands) => {
+            let (printed, _out, store) = work_in_pages(rt, io::writer(rt), store, commands);
             (printed, store)
         }
         Job::Serve(service) => serve_in_pages(rt, store, service),
@@ -46,49 +53,36 @@ fn change_pages<'a>(rt: &'a HostRuntime, store: StoreInPages, job: Job<'a>) -> i
     came_to
 }
 
-/// Whether a work changes nothing, whatever it finds. No guarantee: as `run_over`; a store that is opened to be read
-/// refuses a change.
-fn only_reads(work: &Work<'_>) -> bool {
-    match work {
-        Work::Ask(_) | Work::Annotate { .. } => true,
-        Work::Import(..) | Work::Remove(_) | Work::Group(..) => false,
-    }
-}
-
 /// Does a job that only reads over the store at a path, in its pages: over the files as they are, if their log is not
-/// long. The job comes back, and why, where it changes the store, where they are not plainly a store of this version, or
-/// memory was refused. No guarantee: as `run_over`.
+/// long. `Store` where the job changes the store, or where they are not plainly a store of this version. No guarantee: as
+/// `run_over`; a store that is opened to be read refuses a change.
 fn read_in_pages_at<'a>(
     rt: &'a HostRuntime,
     db: &str,
     patience: Patience,
-    job: Job<'a>,
-) -> Result<io::Result<u8>, (OpenError, Job<'a>)> {
+    job: Job<'_, 'a>,
+) -> Result<io::Result<u8>, OpenError> {
     match job {
-        Job::Work(work) if only_reads(&work) => match pages_at(rt, db, patience) {
-            Ok(store) => Ok(work_in_pages(rt, io::writer(rt), store, work).0),
-            Err(end) => Err((end, Job::Work(work))),
-        },
-        job => Err((OpenError::Store, job)),
+        Job::Run(commands) if commands.iter().all(|command| command.only_reads()) => {
+            let store = pages_at(rt, db, patience)?;
+            Ok(work_in_pages(rt, io::writer(rt), store, commands).0)
+        }
+        _ => Err(OpenError::Store),
     }
 }
 
-/// Does a job over the store at a path, in its pages. The job comes back, and why, where it is not opened. No guarantee:
-/// as `run_over`.
+/// Does a job over the store at a path, in its pages. No guarantee: as `run_over`.
 fn change_in_pages_at<'a>(
     rt: &'a HostRuntime,
     db: &str,
     patience: Patience,
-    job: Job<'a>,
-) -> Result<io::Result<u8>, (OpenError, Job<'a>)> {
-    let opened = match &job {
-        Job::Work(_) => pages_to_change_at(rt, db, patience),
-        Job::Serve(_) => pages_to_serve_at(rt, db, patience),
+    job: Job<'_, 'a>,
+) -> Result<io::Result<u8>, OpenError> {
+    let store = match job {
+        Job::Run(_) => pages_to_change_at(rt, db, patience)?,
+        Job::Serve(_) => pages_to_serve_at(rt, db, patience)?,
     };
-    match opened {
-        Ok(store) => Ok(change_pages(rt, store, job)),
-        Err(end) => Err((end, job)),
-    }
+    Ok(change_pages(rt, store, job))
 }
 
 /// Does a job over the store at a path, in its pages, with no other beside. What is not plainly ours is looked at in its
@@ -97,18 +91,14 @@ fn change_alone<'a>(
     rt: &'a HostRuntime,
     db: &str,
     patience: Patience,
-    job: Job<'a>,
+    job: Job<'_, 'a>,
 ) -> Result<io::Result<u8>, OpenError> {
-    let job = match change_in_pages_at(rt, db, patience, job) {
-        Ok(came_to) => return Ok(came_to),
-        Err((OpenError::Store, job)) => job,
-        Err((end, _)) => return Err(end),
-    };
-    look_at(rt, db, patience)?;
     match change_in_pages_at(rt, db, patience, job) {
-        Ok(came_to) => Ok(came_to),
-        Err((end, _)) => Err(end),
+        Err(OpenError::Store) => {}
+        came_to => return came_to,
     }
+    look_at(rt, db, patience)?;
+    change_in_pages_at(rt, db, patience, job)
 }
 
 /// Does a job over the store at a path, with no other beside. A store that is to be refused is refused before anything of
@@ -117,24 +107,28 @@ fn work_alone<'a>(
     rt: &'a HostRuntime,
     db: &str,
     patience: Patience,
-    job: Job<'a>,
+    job: Job<'_, 'a>,
 ) -> Result<io::Result<u8>, OpenError> {
-    let job = match read_in_pages_at(rt, db, patience, job) {
+    match read_in_pages_at(rt, db, patience, job) {
         Ok(came_to) => return Ok(came_to),
-        Err((OpenError::Memory, _)) => return Err(OpenError::Memory),
-        Err((_, job)) => job,
-    };
+        Err(OpenError::Memory) => return Err(OpenError::Memory),
+        Err(_) => {}
+    }
     look_beside(rt, db)?;
     change_alone(rt, db, patience, job)
 }
 
 /// Does a job over the store at a path, which is made where there is none: one that only reads beside others, if it can
 /// be read so. No guarantee: as `run_over`.
-fn work_at<'a>(rt: &'a HostRuntime, db: &str, job: Job<'a>) -> Result<io::Result<u8>, OpenError> {
+fn work_at<'a>(
+    rt: &'a HostRuntime,
+    db: &str,
+    job: Job<'_, 'a>,
+) -> Result<io::Result<u8>, OpenError> {
     let patience = Patience::begin(rt);
     make_missing_at(rt, db, patience)?;
-    if let Job::Work(work) = &job {
-        match work_beside(rt, db, work, patience) {
+    if let Job::Run(commands) = job {
+        match work_beside(rt, db, commands, patience) {
             Beside::Done(came_to) => return Ok(came_to),
             Beside::Moved => return Err(OpenError::Store),
             Beside::Refused(end) => return Err(end),
@@ -148,23 +142,32 @@ fn work_at<'a>(rt: &'a HostRuntime, db: &str, job: Job<'a>) -> Result<io::Result
 /// Does a job over the store at a path, and prints why that was not opened. No guarantee: which history the
 /// store at a path has, the checker does not know; `Session::run` says what is done over a store of any
 /// history, and which status comes of it.
-fn run_over<'a>(rt: &'a HostRuntime, db: &str, job: Job<'a>) -> io::Result<ExitCode> {
+fn run_over<'a>(rt: &'a HostRuntime, db: &str, job: Job<'_, 'a>) -> io::Result<ExitCode> {
     match work_at(rt, db, job) {
         Ok(status) => Ok(ExitCode::from(status?)),
         Err(end) => print_unopened(rt, end),
     }
 }
 
+/// Runs the commands of a plan that has such. No guarantee: as `run_plan`.
+fn run_commands<'a>(rt: &'a HostRuntime, plan: Plan<'a>) -> io::Result<ExitCode>
+    requires { HasCommands plan }
+{
+    match commands_of(rt.alloc(), plan) {
+        Ok((db, commands)) => run_over(rt, db, Job::Run(commands.as_slice())),
+        Err(AllocError) => print_refused(rt, "out of memory"),
+    }
+}
+
 /// Does what a plan says, and prints what it came to. No guarantee: which files stand at the paths of a plan
-/// the checker does not know; `task_of`, `total_read` and `work_in_pages` say what is made of them.
+/// the checker does not know; `commands_of`, `total_read` and `work_in_pages` say what is made of them.
 pub(crate) fn run_plan<'a>(rt: &'a HostRuntime, plan: Plan<'a>) -> io::Result<ExitCode> {
-    match task_of(plan) {
-        Task::Total(path) => {
+    match plan {
+        Plan::Total { path } => {
             let status = print_total(&mut io::writer(rt), total_file(rt, path))?;
             Ok(ExitCode::from(status))
         }
-        Task::Over(db, work) => run_over(rt, db, Job::Work(work)),
-        Task::Serve {
+        Plan::Serve {
             db,
             port,
             requests,
@@ -180,5 +183,6 @@ pub(crate) fn run_plan<'a>(rt: &'a HostRuntime, plan: Plan<'a>) -> io::Result<Ex
                 log,
             }),
         ),
+        plan => run_commands(rt, plan),
     }
 }

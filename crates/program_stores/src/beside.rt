@@ -1,5 +1,4 @@
 // Reads the store at a path beside others, who may write it meanwhile, and says why another is refused.
-ghost use Rattle.std.specs.Prelude.{◌≡◌, IfSome};
 ghost use Rattle.read_only_disks.specs.Untouched.{IsUntouched};
 
 use crate::reading::{LONGEST_LOG, PAGES_TO_READ, Unread, close, store_in_pages, work_in_pages};
@@ -7,7 +6,8 @@ use files_to_read::{FileOf, IfStands, Standing, Unopened, open_to_look, open_to_
 use page_runs::PageRuns;
 use prof_store::OpenError;
 use read_only_disks::{ReadOnly, read_only};
-use sessions::Work;
+use requests::Command;
+use sessions::WordsCommand;
 use sqlite_disk::{Disk, Files as DiskFiles, Start, Unknown};
 use sqlite_pager::Options;
 use std::alloc::Global;
@@ -16,10 +16,10 @@ use std::rt::HostRuntime;
 use std::{fs, io};
 use store_paths::{Patience, TRIES, is_blank_in, is_migratable, is_no_file, options_for};
 
-/// What a work came to over a store that others may write.
+/// What commands came to over a store that others may write.
 #[derive(Drop)]
 pub enum Beside {
-    /// Its answer, that of one commit, was printed, with this status, or could not be.
+    /// Their answers, those of one commit, were printed, with this status, or could not be.
     Done(io::Result<u8>),
     /// Others wrote while the store was read.
     Moved,
@@ -27,46 +27,25 @@ pub enum Beside {
     Refused(OpenError),
     /// It is of version 1, and is brought up to this one when it is opened to be changed.
     First,
-    /// Nothing is known of it: the work changes it, or the files are not to be read so.
+    /// Nothing is known of it: the commands change it, or the files are not to be read so.
     Unfit,
 }
 
 /// A store that others may write.
 type StoreBeside = PageRuns<ReadOnly<FileOf<Unknown>, Unknown>>;
 
-/// The same work, to be done once more, if it changes nothing, whatever it finds.
-fn again<'a>(work: &Work<'a>) -> Option<Work<'a>>
-    ensures { IfSome result (λ again. again ≡ work.now) }
-{
-    match work {
-        Work::Ask(question) => Some(Work::Ask(*question)),
-        Work::Annotate {
-            selected,
-            event,
-            file,
-            source,
-        } => Some(Work::Annotate {
-            selected: *selected,
-            event: *event,
-            file: *file,
-            source: *source,
-        }),
-        Work::Import(..) | Work::Remove(_) | Work::Group(..) => None,
-    }
-}
-
 /// So often it is tried, even where that takes longer than patience lasts.
 const LEAST_TRIES: u32 = 3;
 
-/// Whether what a work reads beside the store can be read once more: a pipe cannot. No guarantee: of files the checker
-/// knows nothing.
-fn has_lasting_source(rt: &HostRuntime, work: &Work<'_>) -> bool {
-    match work {
-        Work::Annotate { source, .. } => match fs::metadata(rt, *source) {
+/// Whether a command changes nothing, and what it reads beside the store can be read once more: a pipe cannot. No
+/// guarantee: of files the checker knows nothing.
+fn may_be_repeated(rt: &HostRuntime, command: &WordsCommand<'_>) -> bool {
+    match command {
+        Command::Annotate { source, .. } => match fs::metadata(rt, *source) {
             Ok(found) => found.is_file(),
             Err(_) => true,
         },
-        _ => true,
+        other => other.only_reads(),
     }
 }
 
@@ -178,25 +157,25 @@ fn printed<'a, W: Write + Drop>(out: IfStands<'a, W>, came_to: io::Result<u8>) -
     }
 }
 
-/// Does a work that only reads over a store that was read beside others.
+/// Runs commands that only read over a store that was read beside others.
 fn work_over_pages<'a, D: Disk + Drop>(
     rt: &'a HostRuntime,
     store: PageRuns<D>,
     standing: Standing,
-    work: Work<'a>,
+    commands: &[WordsCommand<'a>],
 ) -> Beside {
     let out = IfStands::new(io::writer(rt), rt, standing);
-    let (came_to, out, store) = work_in_pages(rt, out, store, work);
+    let (came_to, out, store) = work_in_pages(rt, out, store, commands);
     close(store);
     printed(out, came_to)
 }
 
-/// Does a work that only reads over the store at a path, once. A file that is read without a log is locked for that.
+/// Runs commands that only read over the store at a path, once. A file that is read without a log is locked for that.
 /// `work_in_pages` says what is answered over what was read, `Standing` when that is what one commit left.
-fn work_once<'a>(rt: &'a HostRuntime, path: &str, work: Work<'a>) -> Beside {
+fn work_once<'a>(rt: &'a HostRuntime, path: &str, commands: &[WordsCommand<'a>]) -> Beside {
     match store_beside(rt, path) {
         Ok((store, standing)) if standing.is_read_with_log() => {
-            work_over_pages(rt, store, standing, work)
+            work_over_pages(rt, store, standing, commands)
         }
         Ok((store, _standing)) => {
             close(store);
@@ -206,23 +185,20 @@ fn work_once<'a>(rt: &'a HostRuntime, path: &str, work: Work<'a>) -> Beside {
     }
 }
 
-/// Does a work over the store at a path beside others, if it only reads: no lock is taken, and nothing is made or
+/// Runs commands over the store at a path beside others, if they only read: no lock is taken, and nothing is made or
 /// changed. Where others write meanwhile, it begins anew, as long as patience lasts. No guarantee: of the files at a path
 /// the checker knows nothing.
 pub fn work_beside<'a>(
     rt: &'a HostRuntime,
     path: &str,
-    work: &Work<'a>,
+    commands: &[WordsCommand<'a>],
     patience: Patience,
 ) -> Beside {
-    if is_no_file(path) || !has_lasting_source(rt, work) {
+    if is_no_file(path) || !commands.iter().all(|command| may_be_repeated(rt, command)) {
         return Beside::Unfit;
     }
     'tries: for turn in 0..TRIES {
-        let Some(work) = again(work) else {
-            return Beside::Unfit;
-        };
-        match work_once(rt, path, work) {
+        match work_once(rt, path, commands) {
             Beside::Moved if patience.is_left(rt) || turn < LEAST_TRIES => {}
             // While another makes the files, or opens them, they may be so for a moment.
             Beside::Unfit if turn == 0 => {}

@@ -18,7 +18,7 @@ use page_runs::PageRuns;
 use plain_tables::StoreError;
 use prof_store::OpenError;
 use read_only_disks::{ReadOnly, read_only};
-use sessions::{Work, work_over};
+use sessions::{WordsCommand, work_over};
 use sqlite::File;
 use sqlite_disk::{Disk, Files as DiskFiles, Start, Unknown};
 use sqlite_pager::Options;
@@ -136,16 +136,17 @@ pub fn pages_to_serve_at(
     keeping_pages_at(rt, path, patience, CELLS_TO_KEEP)
 }
 
-/// Does a work over a store in the pages of its file.
+/// Runs commands over a store in the pages of its file.
 pub fn work_in_pages<'a, R: Files + AllocGlobal, W: Write + Drop, D: Disk + Drop>(
     rt: &'a R,
     out: W,
     store: PageRuns<D>,
-    work: Work<'a>,
+    commands: &[WordsCommand<'a>],
 ) -> (io::Result<u8>, W, PageRuns<D>)
-    ensures { IsFaithful state_of result.2 → CameTo state_of W.contents (Wants R.File.remaining work.entry) result.0 out result.1 store result.2 }
+    ensures { IsFaithful state_of result.2
+        → CameTo state_of W.contents (Wants R.File.remaining commands.now) result.0 out result.1 store result.2 }
 {
-    work_over(rt, out, store, work)
+    work_over(rt, out, store, commands)
 }
 
 /// Serves a store in the pages of its file.

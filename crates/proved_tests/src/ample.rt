@@ -1,8 +1,7 @@
 // A store by SQL of ample size: nothing that is asked finds memory short or the store at fault.
 use crate::stores::{Held, answered, empty, execute};
-use cg_text::ListVec;
 use cost_rows::Key;
-use report_texts::{CallSide, Cut};
+use report_texts::Cut;
 use sqlite::params;
 use std::alloc::{AllocError, Global};
 use std::test::Fail;
@@ -91,60 +90,59 @@ fn ample(alloc: Global) -> Result<Held, Fail> {
     Ok(conn)
 }
 
-fn group(alloc: Global) -> Result<Selection, AllocError> {
-    Ok(Selection::Group(ListVec::from_vec(b"g".to_vec(alloc)?)))
+fn group<'a>() -> Selection<&'a [u8]> {
+    Selection::Group(b"g".as_slice())
 }
 
-fn by_function(alloc: Global, selection: Selection) -> Result<Query, AllocError> {
-    Ok(Query::By {
+fn by_function<'a>(selection: Selection<&'a [u8]>) -> Query<&'a [u8]> {
+    Query::By {
         selection,
         key: Key::Function,
-        event: ListVec::from_vec(b"Ir".to_vec(alloc)?),
+        event: b"Ir".as_slice(),
         cut: Cut {
             limit: None,
             threshold: 100,
         },
-    })
+    }
 }
 
-fn callers(alloc: Global) -> Result<Query, AllocError> {
-    Ok(Query::Calls {
+fn callers<'a>() -> Query<&'a [u8]> {
+    Query::Callers {
         selection: Selection::All,
-        side: CallSide::Callers,
-        event: ListVec::from_vec(b"Ir".to_vec(alloc)?),
-        object: ListVec::from_vec(b"???".to_vec(alloc)?),
-        function: ListVec::from_vec(b"x1".to_vec(alloc)?),
-    })
+        event: b"Ir".as_slice(),
+        object: b"???".as_slice(),
+        function: b"x1".as_slice(),
+    }
 }
 
-fn inclusive(alloc: Global) -> Result<Query, AllocError> {
-    Ok(Query::Inclusive {
-        selection: group(alloc)?,
-        event: ListVec::from_vec(b"Ir".to_vec(alloc)?),
-    })
+fn inclusive<'a>() -> Query<&'a [u8]> {
+    Query::Inclusive {
+        selection: group(),
+        event: b"Ir".as_slice(),
+    }
 }
 
 /// Questions, each with how many lines its answer has.
-type Questions = Vec<(Query, usize)>;
+type Questions<'a> = Vec<(Query<&'a [u8]>, usize)>;
 
 /// Adds those for lists and sums.
-fn push_lists(alloc: Global, questions: &mut Questions) -> Result<(), AllocError> {
+fn push_lists(questions: &mut Questions<'_>) -> Result<(), AllocError> {
     questions.push((Query::Runs, 301))?;
     questions.push((Query::Groups, 1))?;
     questions.push((Query::Verify(Selection::All), 301))?;
-    questions.push((Query::Verify(group(alloc)?), 300))?;
+    questions.push((Query::Verify(group()), 300))?;
     questions.push((Query::Csv(Selection::All), 302))?;
     questions.push((Query::Folded(Selection::All), 600))?;
     Ok(())
 }
 
 /// Adds those for reports.
-fn push_reports(alloc: Global, questions: &mut Questions) -> Result<(), AllocError> {
-    questions.push((by_function(alloc, Selection::All)?, 303))?;
-    questions.push((by_function(alloc, group(alloc)?)?, 303))?;
-    questions.push((by_function(alloc, Selection::Run(7))?, 4))?;
-    questions.push((callers(alloc)?, 302))?;
-    questions.push((inclusive(alloc)?, 302))?;
+fn push_reports(questions: &mut Questions<'_>) -> Result<(), AllocError> {
+    questions.push((by_function(Selection::All), 303))?;
+    questions.push((by_function(group()), 303))?;
+    questions.push((by_function(Selection::Run(7)), 4))?;
+    questions.push((callers(), 302))?;
+    questions.push((inclusive(), 302))?;
     Ok(())
 }
 
@@ -153,8 +151,8 @@ fn many_runs_and_rows_are_asked(rt: HostRuntime) -> Result<(), Fail> {
     let alloc = rt.alloc();
     let mut conn = ample(alloc)?;
     let mut questions = Vec::new(alloc);
-    push_lists(alloc, &mut questions)?;
-    push_reports(alloc, &mut questions)?;
+    push_lists(&mut questions)?;
+    push_reports(&mut questions)?;
     for (query, lines) in questions {
         let (answer, left) = answered(alloc, conn, Command::Ask(query))?;
         conn = left;

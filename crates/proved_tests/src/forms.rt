@@ -2,10 +2,9 @@
 // is told as before.
 use crate::given::Given;
 use crate::stores::{Held, answered, empty, execute};
-use cg_text::ListVec;
 use cost_rows::Key;
-use report_texts::{CallSide, Cut};
-use std::alloc::{AllocError, Global};
+use report_texts::Cut;
+use std::alloc::Global;
 use std::test::Fail;
 use warehouse::{Answer, Command, Kind, Query, Refusal, Selection};
 
@@ -148,55 +147,54 @@ const FAULTS: [(&str, Asked, &str); 21] = [
 ];
 
 /// The question by function of the derived event.
-fn functions(alloc: Global) -> Result<Query, AllocError> {
-    Ok(Query::By {
+fn functions<'a>() -> Query<&'a [u8]> {
+    Query::By {
         selection: Selection::All,
         key: Key::Function,
-        event: ListVec::from_vec(b"E".to_vec(alloc)?),
+        event: b"E".as_slice(),
         cut: Cut {
             limit: None,
             threshold: 100,
         },
-    })
+    }
 }
 
 /// The question for the callers of `f`.
-fn callers(alloc: Global) -> Result<Query, AllocError> {
-    Ok(Query::Calls {
+fn callers<'a>() -> Query<&'a [u8]> {
+    Query::Callers {
         selection: Selection::All,
-        side: CallSide::Callers,
-        event: ListVec::from_vec(b"Ir".to_vec(alloc)?),
-        object: ListVec::from_vec(b"???".to_vec(alloc)?),
-        function: ListVec::from_vec(b"f".to_vec(alloc)?),
-    })
+        event: b"Ir".as_slice(),
+        object: b"???".as_slice(),
+        function: b"f".as_slice(),
+    }
 }
 
 /// An import of bytes.
-fn import(alloc: Global, kind: Kind, bytes: &'static [u8]) -> Result<Command<Given>, AllocError> {
-    Ok(Command::Import {
+fn import<'a>(kind: Kind, bytes: &'static [u8]) -> Command<Given, &'a [u8]> {
+    Command::Import {
         kind,
-        label: b"a".to_vec(alloc)?,
+        label: b"a".as_slice(),
         source: Given::sound(bytes, 4096),
-    })
+    }
 }
 
-fn command_of(alloc: Global, asked: Asked) -> Result<Command<Given>, AllocError> {
-    Ok(Command::Ask(match asked {
+fn command_of<'a>(asked: Asked) -> Command<Given, &'a [u8]> {
+    Command::Ask(match asked {
         Asked::Runs => Query::Runs,
         Asked::Groups => Query::Groups,
         Asked::Verify => Query::Verify(Selection::All),
-        Asked::Functions => functions(alloc)?,
-        Asked::Callers => callers(alloc)?,
+        Asked::Functions => functions(),
+        Asked::Callers => callers(),
         Asked::Stacks => Query::Folded(Selection::All),
-        Asked::Import => return import(alloc, Kind::Callgrind, b"events: Ir Dr\n1 1 1\n"),
-    }))
+        Asked::Import => return import(Kind::Callgrind, b"events: Ir Dr\n1 1 1\n"),
+    })
 }
 
 /// A store with two runs and a group.
 fn two_runs(alloc: Global) -> Result<Held, Fail> {
     let conn = empty(alloc, false)?.into_connection();
-    let (_, conn) = answered(alloc, conn, import(alloc, Kind::Callgrind, CALLS)?)?;
-    let (_, mut conn) = answered(alloc, conn, import(alloc, Kind::Folded, STACKS)?)?;
+    let (_, conn) = answered(alloc, conn, import(Kind::Callgrind, CALLS))?;
+    let (_, mut conn) = answered(alloc, conn, import(Kind::Folded, STACKS))?;
     execute(&mut conn, "INSERT INTO grp VALUES ('g', 2)")?;
     Ok(conn)
 }
@@ -206,7 +204,7 @@ fn told_by(alloc: Global, conn: Held) -> Result<(Vec<u8>, Held), Fail> {
     let mut told = Vec::new(alloc);
     let mut conn = conn;
     for asked in QUESTIONS {
-        let (answer, left) = answered(alloc, conn, command_of(alloc, asked)?)?;
+        let (answer, left) = answered(alloc, conn, command_of(asked))?;
         conn = left;
         match answer {
             Answer::Text(text) => told.extend_from_slice(text.to_list(alloc)?.as_slice())?,
@@ -222,7 +220,7 @@ fn rows_out_of_form_are_the_stores_fault(rt: HostRuntime) -> Result<(), Fail> {
     let (before, mut conn) = told_by(alloc, two_runs(alloc)?)?;
     for (fault, asked, mend) in FAULTS {
         execute(&mut conn, fault)?;
-        let (answer, left) = answered(alloc, conn, command_of(alloc, asked)?)?;
+        let (answer, left) = answered(alloc, conn, command_of(asked))?;
         conn = left;
         let Answer::Refused(Refusal::Store) = answer else {
             return Err(fault)?;

@@ -4,9 +4,9 @@ use crate::stores::empty_runs;
 use prof_store::StoreError;
 use sql_runs::SqlRuns;
 use sqlite::MemStore;
-use std::alloc::{AllocError, Global};
+use std::alloc::Global;
 use std::test::Fail;
-use warehouse::{Answer, Command, GroupChange, Kind, Limits, Refusal, Source, Warehouse};
+use warehouse::{Answer, Command, Kind, Limits, Refusal, Source, Warehouse};
 
 /// A file of 15 bytes.
 const SMALL: &[u8] = b"events: Ir\n1 1\n";
@@ -55,20 +55,19 @@ fn make_group(
     house: &mut Warehouse<SqlRuns<MemStore>>,
     alloc: Global,
     name: &[u8],
-) -> Result<&'static str, AllocError> {
-    let command = Command::Group(name.to_vec(alloc)?, GroupChange::Make);
-    Ok(word(&house.apply::<Given>(alloc, command)))
+) -> &'static str {
+    word(&house.apply::<Given>(alloc, Command::MakeGroup(name)))
 }
 
 /// Whether run 1 is removed, a group is made, and a second one finds no room.
 fn removes_and_makes_one_group(
     house: &mut Warehouse<SqlRuns<MemStore>>,
     alloc: Global,
-) -> Result<bool, AllocError> {
+) -> bool {
     let removed = word(&house.apply::<Given>(alloc, Command::Remove(1)));
-    let first = make_group(house, alloc, b"g")?;
-    let second = make_group(house, alloc, b"h")?;
-    Ok(removed == "done" && first == "done" && second == "full")
+    let first = make_group(house, alloc, b"g");
+    let second = make_group(house, alloc, b"h");
+    removed == "done" && first == "done" && second == "full"
 }
 
 #[test]
@@ -108,7 +107,7 @@ fn limits_made_small(rt: HostRuntime) -> Result<(), Fail> {
     ] {
         assert_eq!(rt; import(&mut house, alloc, Given::sound(bytes, 100)), wanted);
     }
-    assert!(rt; removes_and_makes_one_group(&mut house, alloc)?);
+    assert!(rt; removes_and_makes_one_group(&mut house, alloc));
     for (bytes, wanted) in [
         (b"events: Bc\n", "run numbers spent"),
         (b"events: Dr\n", "held 2"),

@@ -9,7 +9,7 @@ use cost_rows::{CallEdge, Cell, FileRows};
 use shared_texts::SharedText;
 use std::alloc::{AllocError, Global};
 use std::test::Fail;
-use warehouse::{Answer, Command, GroupChange, Kind, Limits, Query, Refusal, Selection, Warehouse};
+use warehouse::{Answer, Command, Kind, Limits, Query, Refusal, Selection, Warehouse};
 
 #[test]
 fn fields_stand_between_blanks(rt: HostRuntime) -> Result<(), Fail> {
@@ -102,22 +102,22 @@ fn rows_of_a_file_have_their_names(rt: HostRuntime) -> Result<(), Fail> {
 }
 
 /// A file is imported, a source annotated, the run put into a group and removed.
-fn commands(alloc: Global) -> Result<Vec<Command<Given>>, AllocError> {
+fn commands<'a>(alloc: Global) -> Result<Vec<Command<Given, &'a [u8]>>, AllocError> {
     let mut commands = Vec::new(alloc);
     commands.push(Command::Import {
         kind: Kind::Callgrind,
-        label: b"a".to_vec(alloc)?,
+        label: b"a".as_slice(),
         source: Given::sound(b"events: Ir\nfl=a.c\nfn=f\n0 1\n1 2\n9 4\n", 7),
     })?;
     commands.push(Command::Annotate {
         selection: Selection::All,
-        event: ListVec::from_vec(b"Ir".to_vec(alloc)?),
-        file: ListVec::from_vec(b"a.c".to_vec(alloc)?),
+        event: b"Ir".as_slice(),
+        file: b"a.c".as_slice(),
         source: Given::sound(b"int x;", 7),
     })?;
-    commands.push(Command::Group(b"g".to_vec(alloc)?, GroupChange::Make))?;
+    commands.push(Command::MakeGroup(b"g".as_slice()))?;
     commands.push(Command::Remove(2))?;
-    commands.push(Command::Group(b"g".to_vec(alloc)?, GroupChange::Join(1)))?;
+    commands.push(Command::Join(b"g".as_slice(), 1))?;
     commands.push(Command::Ask(Query::Groups))?;
     Ok(commands)
 }

@@ -2,14 +2,13 @@
 // out of memory and changes nothing, the others are answered, and the next call is whole.
 use crate::given::Given;
 use crate::stores::empty_runs;
-use cg_text::ListVec;
 use cost_rows::Key;
 use report_texts::Cut;
 use sql_runs::SqlRuns;
 use sqlite::MemStore;
 use std::alloc::{AllocError, Global};
 use std::test::Fail;
-use warehouse::{Answer, Command, GroupChange, Kind, Limits, Query, Refusal, Selection, Warehouse};
+use warehouse::{Answer, Command, Kind, Limits, Query, Refusal, Selection, Warehouse};
 
 /// The manual's example of calls.
 pub(crate) const CALLS: &[u8] =
@@ -20,20 +19,20 @@ const COSTS: &[u8] =
     b"by function Instructions\n820 100.00% total\n700 85.36% ???:func2\n100 12.19% ???:func1\n20 2.43% ???:main\n0 0.00% (rest)\n";
 
 /// It is imported, a group is made, the run joins it, and the groups and the costs are asked for.
-fn commands(alloc: Global) -> Result<Vec<Command<Given>>, AllocError> {
+fn commands<'a>(alloc: Global) -> Result<Vec<Command<Given, &'a [u8]>>, AllocError> {
     let mut commands = Vec::new(alloc);
     commands.push(Command::Import {
         kind: Kind::Callgrind,
-        label: b"a".to_vec(alloc)?,
+        label: b"a".as_slice(),
         source: Given::sound(CALLS, 100),
     })?;
-    commands.push(Command::Group(b"g".to_vec(alloc)?, GroupChange::Make))?;
-    commands.push(Command::Group(b"g".to_vec(alloc)?, GroupChange::Join(1)))?;
+    commands.push(Command::MakeGroup(b"g".as_slice()))?;
+    commands.push(Command::Join(b"g".as_slice(), 1))?;
     commands.push(Command::Ask(Query::Groups))?;
     commands.push(Command::Ask(Query::By {
         selection: Selection::All,
         key: Key::Function,
-        event: ListVec::from_vec(b"Instructions".to_vec(alloc)?),
+        event: b"Instructions".as_slice(),
         cut: Cut {
             limit: None,
             threshold: 100,

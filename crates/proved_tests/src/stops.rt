@@ -2,7 +2,6 @@
 // file, or of both. Opened again, they tell what they told before or with it, and where it was answered as done, with it.
 use crate::given::Given;
 use crate::refused::CALLS;
-use cg_text::ListVec;
 use cost_rows::Key;
 use prof_store::Store;
 use report_texts::Cut;
@@ -121,23 +120,23 @@ fn ended_by(
 }
 
 /// What all runs cost by function.
-fn by_function(alloc: Global, event: &[u8]) -> Result<Query, AllocError> {
-    Ok(Query::By {
+fn by_function<'a>(event: &'a [u8]) -> Query<&'a [u8]> {
+    Query::By {
         selection: Selection::All,
         key: Key::Function,
-        event: ListVec::from_vec(event.to_vec(alloc)?),
+        event,
         cut: Cut {
             limit: None,
             threshold: 100,
         },
-    })
+    }
 }
 
 /// Adds what a question is answered: a text behind a 1, or a 2 for a refusal.
 fn ask(
     alloc: Global,
     house: &mut Warehouse<SqlRuns<FileStore<Stopping>>>,
-    query: Query,
+    query: Query<&[u8]>,
     told: &mut Vec<u8>,
 ) -> Result<(), AllocError> {
     match house.apply::<Given>(alloc, Command::Ask(query)) {
@@ -169,8 +168,7 @@ fn told_by(alloc: Global, log: &[u8], database: &[u8]) -> Result<Vec<u8>, Fail> 
     ask(alloc, house, Query::Runs, &mut told)?;
     ask(alloc, house, Query::Groups, &mut told)?;
     ask(alloc, house, Query::Verify(Selection::All), &mut told)?;
-    let costs = by_function(alloc, b"Instructions")?;
-    ask(alloc, house, costs, &mut told)?;
+    ask(alloc, house, by_function(b"Instructions"), &mut told)?;
     Ok(told)
 }
 

@@ -72,7 +72,7 @@ pub(crate) fn execute(conn: &mut Held, text: &str) -> Result<(), Fail> {
 pub(crate) fn answered(
     alloc: Global,
     conn: Held,
-    command: Command<Given>,
+    command: Command<Given, &[u8]>,
 ) -> Result<(Answer, Held), Fail> {
     let store = match Store::open(alloc, conn) {
         Ok(store) => store,

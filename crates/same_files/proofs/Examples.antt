@@ -9,7 +9,7 @@ use Rattle.histories.specs.History.{Command, Import, Remove, MakeGroup, Join, St
 use Rattle.histories.specs.Selections.{selected}
 use Rattle.histories.specs.declared.answers.Answer.{Answer}
 use Rattle.histories.specs.declared.answers.Answer.TheVariants.{Run, Done}
-use Rattle.histories.specs.declared.answers.Selection.TheVariants as selections
+use Rattle.requests.specs.declared.selections.Selection.TheVariants as selections
 use Rattle.same_files.specs.SameFiles.{AreSameFiles, NameSameFiles}
 
 abbrev one : List ℕ

@@ -4,7 +4,7 @@ use Rattle.histories.specs.Formats.{Format}
 use Rattle.histories.specs.History.{Command, History, File}
 use Rattle.histories.specs.Legal.{compared, expected_answer, files_of, no_second, no_selection}
 use Rattle.histories.specs.Selections.{selected}
-use Rattle.histories.specs.declared.answers.Selection.{Selection}
+use Rattle.requests.specs.Plain.{Selection}
 use Rattle.histories.specs.declared.limits.Limits.{Limits}
 
 -- what a file is, without the number and the label that it got: its bytes, and the format in which they were read, which tells its kind and the side of the mark

@@ -4,8 +4,8 @@ ghost use Rattle.report_texts.specs.declared.call_sides.CallSide.{CallSide};
 ghost use Rattle.report_texts.specs.declared.cuts.Cut.{Cut};
 ghost use Rattle.cost_rows.specs.declared.keys.Key.{Key};
 ghost use Rattle.histories.specs.History.{Ask, Annotate, History};
-ghost use Rattle.histories.specs.declared.answers.Query.TheVariants as queries;
-ghost use Rattle.histories.specs.declared.answers.Selection.{Selection};
+ghost use Rattle.requests.specs.declared.queries.Query.TheVariants as queries;
+ghost use Rattle.requests.specs.Plain.{Selection, calls_query};
 ghost use Rattle.same_files.specs.SameFiles.{AreAnsweredAlike, CompareSameFiles, NameSameFiles};
 ghost use Rattle.byte_io.specs.Outcomes.{Outcome};
 
@@ -19,7 +19,7 @@ pub fn only_the_files_matter_to_reports()
     ensures inclusive { (h k : History) (s r : Selection) (event : List ℕ) → NameSameFiles h s k r
         → AreAnsweredAlike h (Ask (queries.Inclusive s event)) k (Ask (queries.Inclusive r event)) }
     ensures calls { (h k : History) (s r : Selection) (side : CallSide) (event object function : List ℕ) → NameSameFiles h s k r
-        → AreAnsweredAlike h (Ask (queries.Calls s side event object function)) k (Ask (queries.Calls r side event object function)) }
+        → AreAnsweredAlike h (Ask (calls_query side s event object function)) k (Ask (calls_query side r event object function)) }
     ensures subtract { (h k : History) (s r : Selection) (t u : Option Selection) (key : Key) (event : List ℕ) → CompareSameFiles h s t k r u
         → AreAnsweredAlike h (Ask (queries.Subtract s t key event)) k (Ask (queries.Subtract r u key event)) }
 {}

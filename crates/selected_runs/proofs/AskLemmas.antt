@@ -7,7 +7,7 @@ use Rattle.run_stores.proofs.Calls.{asked_of_open, asked_reads}
 use Rattle.plain_tables.specs.Tables.{Tables}
 use Rattle.plain_tables.specs.declared.errors.StoreError.{StoreError}
 use Rattle.histories.specs.declared.answers.Answer.{Answer}
-use Rattle.histories.specs.declared.answers.Query.{Query}
+use Rattle.requests.specs.Plain.{Query}
 use Rattle.store_histories.specs.Answered.{WasAsked, has_changed}
 use Rattle.store_histories.proofs.Questions.{IsTold, asked_once}
 

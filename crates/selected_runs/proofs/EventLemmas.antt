@@ -10,7 +10,7 @@ use Rattle.histories.specs.declared.answers.Answer.{Answer}
 use Rattle.histories.specs.declared.answers.Answer.TheVariants.{Refused}
 use Rattle.histories.specs.declared.answers.Refusal.{Refusal}
 use Rattle.histories.specs.declared.answers.Refusal.TheVariants.{NoSuchEvent}
-use Rattle.histories.specs.declared.answers.Selection.{Selection}
+use Rattle.requests.specs.Plain.{Selection}
 use Rattle.selected_runs.specs.Counted.{AreCounted, has_counts}
 use Rattle.selected_runs.specs.EventRuns.{AreEventRuns, AreEventRunsIn}
 use Rattle.selected_runs.specs.Selected.{AreSelected, AreSelectedIn}

@@ -18,7 +18,7 @@ use Rattle.histories.specs.History.{History, File, held}
 use Rattle.histories.specs.Reports.{counts_of, event_records, has_event}
 use Rattle.histories.specs.Selections.{numbers_of, selected, selects}
 use Rattle.histories.specs.Representation.{TablesRepresent}
-use Rattle.histories.specs.declared.answers.Selection.{Selection}
+use Rattle.requests.specs.Plain.{Selection}
 use Rattle.histories.proofs.Runs.{tells_rows}
 use Rattle.selected_runs.specs.Counted.{AreCounted, IsCounted, event_cells, has_counts}
 use Rattle.selected_runs.specs.declared.counting.Counted.{Counted}

@@ -13,8 +13,8 @@ use Rattle.histories.specs.Representation.{AreBooksOf, TablesRepresent}
 use Rattle.histories.specs.declared.answers.Answer.TheVariants.{Refused}
 use Rattle.histories.specs.declared.answers.Refusal.{Refusal}
 use Rattle.histories.specs.declared.answers.Refusal.TheVariants.{NoSuchGroup, NoSuchRun}
-use Rattle.histories.specs.declared.answers.Selection.{Selection}
-use Rattle.histories.specs.declared.answers.Selection.TheVariants as selections
+use Rattle.requests.specs.Plain.{Selection}
+use Rattle.requests.specs.declared.selections.Selection.TheVariants as selections
 use Rattle.histories.proofs.Selections.{are_selected}
 use Rattle.histories.proofs.Tells.{tells_group, tells_run}
 use Rattle.store_histories.proofs.Settled.{no_group_named}

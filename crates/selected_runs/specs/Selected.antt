@@ -10,8 +10,8 @@ use Rattle.histories.specs.Selections.{numbers_of, selected}
 use Rattle.histories.specs.declared.answers.Answer.TheVariants.{Refused}
 use Rattle.histories.specs.declared.answers.Refusal.{Refusal}
 use Rattle.histories.specs.declared.answers.Refusal.TheVariants.{NoSuchGroup, NoSuchRun}
-use Rattle.histories.specs.declared.answers.Selection.{Selection}
-use Rattle.histories.specs.declared.answers.Selection.TheVariants as selections
+use Rattle.requests.specs.Plain.{Selection}
+use Rattle.requests.specs.declared.selections.Selection.TheVariants as selections
 
 -- ---- in tables, whatever they represent
 

@@ -11,7 +11,7 @@ ghost use Rattle.histories.specs.Reports.{event_records, has_event};
 ghost use Rattle.histories.specs.Selections.{numbers_of, selected};
 ghost use Rattle.histories.specs.Representation.{TablesRepresent};
 ghost use Rattle.histories.specs.declared.answers.Refusal.{Refusal};
-ghost use Rattle.histories.specs.declared.answers.Selection.{Selection};
+ghost use Rattle.requests.specs.Plain.{Selection};
 ghost use Rattle.selected_runs.specs.Counted.{AreCounted, event_cells, has_counts};
 ghost use Rattle.selected_runs.specs.EventRuns.{AreEventRuns, AreEventRunsIn};
 ghost use Rattle.selected_runs.specs.Selected.{AreSelected, AreSelectedIn};

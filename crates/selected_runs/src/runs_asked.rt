@@ -3,13 +3,15 @@ ghost use Rattle.std.specs.Prelude.{◌≡◌};
 ghost use Rattle.std.specs.List.{list_any};
 ghost use Rattle.std.specs.Result.{is_ok};
 ghost use Rattle.run_stores.specs.Calls.{Asks, Told};
+ghost use Rattle.requests.specs.Plain.{plain_selection};
 ghost use Rattle.selected_runs.specs.Counted.{has_counts};
 ghost use Rattle.selected_runs.specs.EventRuns.{AreEventRunsIn};
 
 use crate::counting::{Counted, count_runs};
 use crate::selecting::select_runs;
 use cg_text::ListVec;
-use histories::{Refusal, Selection};
+use histories::Refusal;
+use requests::Selection;
 use run_stores::{RunStore, StoreError};
 use std::alloc::Global;
 
@@ -27,10 +29,10 @@ pub fn have_event(runs: &[Counted]) -> bool
 pub fn event_runs<S: RunStore>(
     store: &mut S,
     alloc: Global,
-    selection: &Selection,
+    selection: &Selection<&[u8]>,
     event: &[u8],
 ) -> Result<EventRuns, StoreError>
-    ensures told { Told S.StoreState result store.old store.new (λ t found. AreEventRunsIn t selection.now event.now found) }
+    ensures told { Told S.StoreState result store.old store.new (λ t found. AreEventRunsIn t (plain_selection selection.now) event.now found) }
     ensures asks { Asks S.StoreState (is_ok result) store.old store.new }
 {
     let numbers = match select_runs(store, alloc, selection)? {

@@ -3,11 +3,13 @@ ghost use Rattle.std.specs.Prelude.{◌≡◌, ◌⊎◌, []};
 ghost use Rattle.std.specs.Result.{is_ok};
 ghost use Rattle.plain_tables.specs.Labels.{IsGroupName};
 ghost use Rattle.run_stores.specs.Calls.{Asks, Told};
-ghost use Rattle.histories.specs.declared.answers.Selection.TheVariants as selections;
+ghost use Rattle.requests.specs.Plain.{plain_selection};
+ghost use Rattle.requests.specs.declared.selections.Selection.TheVariants as selections;
 ghost use Rattle.selected_runs.specs.Selected.{AreSelectedIn};
 
 use cg_text::ListVec;
-use histories::{Refusal, Selection};
+use histories::Refusal;
+use requests::Selection;
 use run_stores::{RunStore, StoreError};
 use std::alloc::Global;
 
@@ -69,14 +71,14 @@ fn of_group<S: RunStore>(store: &mut S, alloc: Global, name: &[u8]) -> Result<Nu
 pub fn select_runs<S: RunStore>(
     store: &mut S,
     alloc: Global,
-    selection: &Selection,
+    selection: &Selection<&[u8]>,
 ) -> Result<Numbers, StoreError>
-    ensures told { Told S.StoreState result store.old store.new (λ t found. AreSelectedIn t selection.now found) }
+    ensures told { Told S.StoreState result store.old store.new (λ t found. AreSelectedIn t (plain_selection selection.now) found) }
     ensures asks { Asks S.StoreState (is_ok result) store.old store.new }
 {
     match selection {
         Selection::All => all_runs(store, alloc),
         Selection::Run(number) => one_run(store, alloc, *number),
-        Selection::Group(name) => of_group(store, alloc, name.as_slice()),
+        Selection::Group(name) => of_group(store, alloc, name),
     }
 }

@@ -7,26 +7,20 @@ use Rattle.std.specs.List.{list_any}
 use Rattle.std.proofs.lemmas.List.{map-append, drop_more}
 use Rattle.std.proofs.lemmas.List.Folds.{list_any-append}
 use Rattle.run_stores.specs.declared.states.StoreState.{Ghosts}
-use Rattle.profile_records.specs.declared.kinds.Kind.{Kind}
-use Rattle.run_stores.proofs.Calls.{changed_none, shut_none}
 use Rattle.run_stores.specs.Calls.{IsFaithful}
 use Rattle.byte_io.specs.Outcomes.{Outcome}
-use Rattle.histories.specs.Formats.{today}
-use Rattle.histories.specs.History.{History, Command, Step, Import}
-use Rattle.histories.specs.Legal.{IsLegal}
+use Rattle.histories.specs.History.{History, Command, Step}
+use Rattle.histories.specs.Requests.{command_read}
+use Rattle.requests.specs.declared.commands.Command as requests
 use Rattle.histories.specs.declared.answers.Answer.{Answer}
-use Rattle.histories.specs.declared.answers.Answer.TheVariants.{Refused, Text}
-use Rattle.histories.specs.declared.answers.Refusal.{Refusal}
-use Rattle.histories.specs.declared.limits.Limits.{Limits}
-use Rattle.histories.specs.Representation.{TablesRepresent}
-use Rattle.store_histories.specs.Answered.{Answers, Links, Follows}
+use Rattle.histories.specs.declared.answers.Answer.TheVariants.{Text}
+use Rattle.store_histories.specs.Answered.{Answers, Links}
 use Rattle.store_histories.proofs.Links.{links_append, links_clean, links_legal, links_after}
-use Rattle.store_histories.proofs.Settled.{untouched}
 use Rattle.byte_io.specs.Reads.{Reads}
 use Rattle.byte_io.specs.Imported.{FileReads, IsReadOf, WereRead}
 use Rattle.byte_io.specs.declared.imported.FileSource.{FileSource}
 use Rattle.answer_lines.specs.Answers.{is_refused}
-use Rattle.sessions.specs.Sessions.{AreImports, AreLinesOf, ArePrinted, ArePrintedInPart, IsLineOf, Prints, Took, WasDone, WasCut, WasRun, WasTold, answers_of, commands_of, status_after}
+use Rattle.sessions.specs.Sessions.{AreLinesOf, AreReadAs, ArePrinted, ArePrintedInPart, IsLineOf, Prints, Took, WasDone, WasCut, WasPerformed, WasTold, answers_of, commands_of, status_after}
 use Rattle.sessions.specs.declared.session.Session.{Session}
 
 -- ---- the status
@@ -81,16 +75,6 @@ whole_printed text a b is = (text, line_alone (Text text) text (inl refl), is)
 pub part_printed : (text : List ℕ) (a b : Option (List ℕ)) → (n : ℕ) × Appends a b (take n text) → ArePrintedInPart (Text text ∷ []) a b
 part_printed text a b part = (text, part.0, line_alone (Text text) text (inl refl), part.1)
 
--- ---- the store is not asked
-
-pub refused : {S : Type 0} (g : Ghosts S) (limits : Limits) (command : Command) (refusal : Refusal) (store : S) → IsFaithful g store → ((h : History) → IsLegal limits h command (Refused refusal)) → Answers g limits command (Refused refusal) store store
-refused g limits command refusal store clean legal = record {
-  stepped = changed_none g TablesRepresent (Follows limits command) store clean;
-  answered = λ h has. untouched g limits h command store has clean (Refused refusal) tt (legal h);
-  closes = λ usable. inl usable;
-  shut = shut_none g store;
-}
-
 -- ---- steps that were taken
 
 module _ {R W S N : Type 0} (g : Ghosts S) where
@@ -125,11 +109,6 @@ module _ {R W S N : Type 0} (g : Ghosts S) where
       → Answers g old.warehouse.limits command answer old.warehouse.store new.warehouse.store → new.status ≡ status_after old.status (answer ∷ [])
       → Prints result (answer ∷ []) (contents old.out) (contents new.out) → WasTold g contents command result old new
   told contents command answer result old new is status printed = record { answer = answer; took = took_one command answer old new is status; printed = printed }
-
-  -- a work of one command
-  pub run_one : (contents : W → Option (List ℕ)) (command : Command) (wanted : List Command → Type 0) {E : Type 0} (result : Result Unit E) (old new : Session R W S N) → wanted (command ∷ []) → WasTold g contents command result old new → WasRun g contents wanted result old new
-  run_one contents command wanted (Ok done) old new is w = record { steps = record { command = command; answer = w.answer } ∷ []; commands = is; took = w.took; printed = w.printed }
-  run_one contents command wanted (Err e) old new is w = record { steps = record { command = command; answer = w.answer } ∷ []; rest = []; commands = is; took = w.took; printed = w.printed }
 
   -- ---- commands so far
 
@@ -168,42 +147,43 @@ module _ {R W S N : Type 0} (g : Ghosts S) where
   pub so_far_done : (contents : W → Option (List ℕ)) (list : List Command) (wanted : List Command → Type 0) (old new : Session R W S N) → SoFar contents list old new → wanted list → WasDone g contents wanted old new
   so_far_done contents list wanted old new w is = record { steps = w.steps; commands = subst wanted (sym w.commands) is; took = w.took; printed = w.printed }
 
--- ---- imports
+-- ---- commands that are asked for
 
--- imports that were not begun, with no reads
-abbrev unread : Kind → List (List ℕ) → List Command
-unread kind paths = map (λ path. Import (today kind) path []) paths
+-- those that were not begun, with no reads
+abbrev unread : List (requests.Command (List ℕ) (List ℕ)) → List Command
+unread list = map (λ one. command_read one []) list
 
-imports_unread : (reads : List Outcome → Type 0) → reads [] → (kind : Kind) (paths : List (List ℕ)) → AreImports reads kind paths (unread kind paths)
-imports_unread reads none kind [] = tt
-imports_unread reads none kind (path ∷ paths) = ([], none, refl, imports_unread reads none kind paths)
+all_unread : (reads : List Outcome → Type 0) → reads [] → (list : List (requests.Command (List ℕ) (List ℕ))) → AreReadAs reads list (unread list)
+all_unread reads none [] = tt
+all_unread reads none (one ∷ more) = (([], none, refl), all_unread reads none more)
 
-imports_next : {X : Type 0} (reads : List Outcome → Type 0) (now : X → List ℕ) (kind : Kind) (paths : List X) (i : ℕ) (d : X) (outcomes : List Outcome) (rest : List Command) → i < length paths → reads outcomes
-    → AreImports reads kind (map now (drop (i + 1) paths)) rest → AreImports reads kind (map now (drop i paths)) (Import (today kind) (now (get_or paths i d)) outcomes ∷ rest)
-imports_next reads now kind paths i d outcomes rest low read all =
-    subst (λ l. AreImports reads kind (map now l) (Import (today kind) (now (get_or paths i d)) outcomes ∷ rest)) (sym (drop_more paths i d low)) (outcomes, read, refl, all)
+module _ {X : Type 0} (reads : List Outcome → Type 0) (plain : X → requests.Command (List ℕ) (List ℕ)) (list : List X) where
+  next_read : (i : ℕ) (d : X) (outcomes : List Outcome) (rest : List Command) → i < length list → reads outcomes
+      → AreReadAs reads (map plain (drop (i + 1) list)) rest → AreReadAs reads (map plain (drop i list)) (command_read (plain (get_or list i d)) outcomes ∷ rest)
+  next_read i d outcomes rest low read all =
+      subst (λ l. AreReadAs reads (map plain l) (command_read (plain (get_or list i d)) outcomes ∷ rest)) (sym (drop_more list i d low)) ((outcomes, read, refl), all)
 
-module _ {R W S N X : Type 0} (g : Ghosts S) (contents : W → Option (List ℕ)) (reads : List Outcome → Type 0) (now : X → List ℕ) (kind : Kind) (paths : List X) (i : ℕ) (d : X) (list : List Command) (old mid new : Session R W S N) where
-  -- the imports so far fit those of all paths, with the others behind them
+  -- the commands so far fit those of all, with the others behind them
   abbrev pub Fits : List Command → ℕ → Type 0
-  Fits done n = (rest : List Command) → AreImports reads kind (map now (drop n paths)) rest → AreImports reads kind (map now paths) (done ++ rest)
+  Fits done n = (rest : List Command) → AreReadAs reads (map plain (drop n list)) rest → AreReadAs reads (map plain list) (done ++ rest)
 
-  pub import_on : {E : Type 0} (done : Unit {0}) → i < length paths → mid.warehouse.limits ≡ old.warehouse.limits → Fits list i → (w : SoFar g contents list old mid)
-      → ((outcomes : List Outcome) × reads outcomes × WasTold g contents (Import (today kind) (now (get_or paths i d)) outcomes) {E = E} (Ok done) mid new) → (more : List Command) × Fits more (i + 1) × SoFar g contents more old new
-  import_on done low same fits w t =
-      let command = Import (today kind) (now (get_or paths i d)) t.0 in (
-        list ++ command ∷ [],
-        λ rest all. subst (AreImports reads kind (map now paths)) (sym (append_assoc list (command ∷ []) rest)) (fits (command ∷ rest) (imports_next reads now kind paths i d t.0 rest low t.1 all)),
-        so_far_on g contents list command done old mid new same w t.2,
-      )
+  module _ {R W S N : Type 0} (g : Ghosts S) (contents : W → Option (List ℕ)) (i : ℕ) (d : X) (done : List Command) (old mid new : Session R W S N) where
+    pub fits_on : {E : Type 0} (is : Unit {0}) → i < length list → mid.warehouse.limits ≡ old.warehouse.limits → Fits done i → (w : SoFar g contents done old mid)
+        → WasPerformed g contents reads (plain (get_or list i d)) {E = E} (Ok is) mid new → (more : List Command) × Fits more (i + 1) × SoFar g contents more old new
+    fits_on is low same fits w t =
+        let command = command_read (plain (get_or list i d)) t.0 in (
+          done ++ command ∷ [],
+          λ rest all. subst (AreReadAs reads (map plain list)) (sym (append_assoc done (command ∷ []) rest)) (fits (command ∷ rest) (next_read i d t.0 rest low t.1 all)),
+          so_far_on g contents done command is old mid new same w t.2,
+        )
 
-  pub import_cut : {E : Type 0} (result : Result Unit E) → reads [] → i < length paths → mid.warehouse.limits ≡ old.warehouse.limits → Fits list i → (w : SoFar g contents list old mid)
-      → ((outcomes : List Outcome) × reads outcomes × WasTold g contents (Import (today kind) (now (get_or paths i d)) outcomes) result mid new) → WasCut g contents (AreImports reads kind (map now paths)) old new
-  import_cut result none low same fits w t =
-      let command = Import (today kind) (now (get_or paths i d)) t.0 in
-      let rest = unread kind (map now (drop (i + 1) paths)) in
-      so_far_cut g contents list rest command (AreImports reads kind (map now paths)) result old mid new same w t.2
-      (fits (command ∷ rest) (imports_next reads now kind paths i d t.0 rest low t.1 (imports_unread reads none kind (map now (drop (i + 1) paths)))))
+    pub fits_cut : {E : Type 0} (result : Result Unit E) → reads [] → i < length list → mid.warehouse.limits ≡ old.warehouse.limits → Fits done i → (w : SoFar g contents done old mid)
+        → WasPerformed g contents reads (plain (get_or list i d)) result mid new → WasCut g contents (AreReadAs reads (map plain list)) old new
+    fits_cut result none low same fits w t =
+        let command = command_read (plain (get_or list i d)) t.0 in
+        let rest = unread (map plain (drop (i + 1) list)) in
+        so_far_cut g contents done rest command (AreReadAs reads (map plain list)) result old mid new same w t.2
+        (fits (command ∷ rest) (next_read i d t.0 rest low t.1 (all_unread reads none (map plain (drop (i + 1) list)))))
 
 -- a file that is not read yet
 pub none_read : {F : Type 0} (remaining : F → Option (List ℕ)) → WereRead remaining []

@@ -1,4 +1,3 @@
-pub mod Questions
+pub mod Commands
 pub mod Sessions
-pub mod Tasks
 pub mod Works

@@ -1,49 +1,44 @@
 -- What is done over an opened store, in the words of a history.
 use Rattle.std.specs.Prelude.{◌≡◌, ◌⊎◌, ℕ, IsTrue, if◌then◌else◌, List, [], ◌∷◌, ◌++◌, map, Option, take, Result, MatchResult}
 use Rattle.std.specs.Io.KnownBytes.{Appends}
+use Rattle.std.specs.Borrow.{Bor}
 use Rattle.std.specs.List.{list_any}
 use Rattle.run_stores.specs.declared.states.StoreState.{Ghosts}
-use Rattle.profile_records.specs.declared.kinds.Kind.{Kind}
-use Rattle.histories.specs.Formats.{today}
-use Rattle.histories.specs.History as history
 use Rattle.byte_io.specs.Outcomes.{Outcome}
 use Rattle.histories.specs.History.{History, Command, Step}
 use Rattle.histories.specs.Legal.{AreLegal}
+use Rattle.histories.specs.Requests.{command_read}
 use Rattle.histories.specs.declared.answers.Answer.{Answer}
 use Rattle.histories.specs.declared.answers.Answer.TheVariants.{Refused}
 use Rattle.histories.specs.declared.answers.Refusal.TheVariants.{Memory}
 use Rattle.store_histories.specs.Answered.{HasHistory, Links}
 use Rattle.byte_io.specs.Imported.{WereRead}
-use Rattle.store_commands.specs.Changes.{command_from_change}
+use Rattle.requests.specs.Plain.{plain_request}
+use Rattle.requests.specs.declared.commands.Command as requests
+use Rattle.requests.specs.declared.commands.Command.TheVariants as asks
 use Rattle.answer_lines.specs.Answers.{is_refused, line_text, takes_memory}
-use Rattle.histories.specs.declared.answers.Selection.{Selection}
-use Rattle.sessions.specs.Questions.{query_from, selection_from}
 use Rattle.sessions.specs.declared.session.Session.{Session}
-use Rattle.sessions.specs.declared.session.Work.{Work}
-use Rattle.sessions.specs.declared.session.Work.TheVariants as works
 
--- ---- the commands that a work comes to
+-- ---- the commands that are asked for
 
--- an import of each path in turn, under the path as its label, with reads of a file
-abbrev pub AreImports : (List Outcome → Type 0) → Kind → List (List ℕ) → List Command → Type 0
-AreImports reads kind [] [] = Unit {0}
-AreImports reads kind (path ∷ paths) (command ∷ later) = (outcomes : List Outcome) × reads outcomes × (command ≡ history.Import (today kind) path outcomes) × AreImports reads kind paths later
-AreImports reads kind paths list = ⊥
+-- the path of the file that a command reads
+abbrev pub path_in : requests.Command (List ℕ) (List ℕ) → List ℕ
+path_in (asks.Import kind label path) = path
+path_in (asks.Annotate selection event file path) = path
+path_in command = []
 
--- the annotation of a source, with reads of a file
-abbrev pub IsAnnotation : (List Outcome → Type 0) → Selection → List ℕ → List ℕ → List Command → Type 0
-IsAnnotation reads selection event file list = (outcomes : List Outcome) × reads outcomes × (list ≡ history.Annotate selection event file outcomes ∷ [])
+-- a command of a history is the one that is asked for, with reads of the file that it names
+abbrev pub IsReadAs : (List Outcome → Type 0) → requests.Command (List ℕ) (List ℕ) → Command → Type 0
+IsReadAs reads one command = (outcomes : List Outcome) × reads outcomes × (command ≡ command_read one outcomes)
 
-abbrev pub AreOf : (List Outcome → Type 0) → Work → List Command → Type 0
-AreOf reads (works.Import kind paths) list = AreImports reads kind (map (λ path. path.now) paths) list
-AreOf reads (works.Remove numbers) list = list ≡ map history.Remove numbers
-AreOf reads (works.Group name change) list = list ≡ command_from_change change name.now ∷ []
-AreOf reads (works.Ask question) list = list ≡ history.Ask (query_from question) ∷ []
-AreOf reads (works.Annotate selected event file source) list = IsAnnotation reads (selection_from selected) event.now file.now list
+abbrev pub AreReadAs : (List Outcome → Type 0) → List (requests.Command (List ℕ) (List ℕ)) → List Command → Type 0
+AreReadAs reads [] [] = Unit {0}
+AreReadAs reads (one ∷ more) (command ∷ later) = IsReadAs reads one command × AreReadAs reads more later
+AreReadAs reads more later = ⊥
 
--- the same, where the reads are those of files
-abbrev pub Wants : {F : Type 0} → (F → Option (List ℕ)) → Work → List Command → Type 0
-Wants remaining work list = AreOf (WereRead remaining) work list
+-- the same of commands that the code lends, where the reads are those of files
+abbrev pub Wants : {F : Type 0} → (F → Option (List ℕ)) → List (requests.Command (Bor (List ℕ)) (Bor (List ℕ))) → List Command → Type 0
+Wants remaining commands list = AreReadAs (WereRead remaining) (map plain_request commands) list
 
 -- ---- steps
 
@@ -111,3 +106,7 @@ module _ {R W S N : Type 0} (g : Ghosts S) where
     pub answer : Answer
     pub took : Took (record { command = command; answer = answer } ∷ []) old new
     pub printed : Prints result (answer ∷ []) (contents old.out) (contents new.out)
+
+  -- a command that is asked for was answered, with reads of the file that it names
+  abbrev pub WasPerformed : (W → Option (List ℕ)) → (List Outcome → Type 0) → requests.Command (List ℕ) (List ℕ) → {E : Type 0} → Result Unit E → Session R W S N → Session R W S N → Type 0
+  WasPerformed contents reads one result old new = (outcomes : List Outcome) × reads outcomes × WasTold contents (command_read one outcomes) result old new

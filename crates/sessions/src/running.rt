@@ -1,9 +1,10 @@
-// A total is printed, and a work done over an opened store (specs/Works.antt).
+// A total is printed, and commands are run over an opened store (specs/Works.antt).
 ghost use Rattle.run_stores.specs.Calls.{IsFaithful};
 ghost use Rattle.sessions.specs.Sessions.{Wants};
 ghost use Rattle.sessions.specs.Works.{CameTo, TotalPrinted};
 
-use crate::session::{Session, Work};
+use crate::commands::WordsCommand;
+use crate::session::Session;
 use byte_io::write_text;
 use file_reading::TotalText;
 use histories::Limits;
@@ -30,19 +31,20 @@ pub fn print_total<W: Write>(out: &mut W, total: Result<TotalText, AllocError>) 
     }
 }
 
-/// Does a work over an opened store: its commands, each with its answer printed. It hands back the status
+/// Runs commands over an opened store, each with its answer printed. It hands back the status
 /// that the answers come to, where they were printed, what they were printed to, and the store.
 pub fn work_over<'a, R: Files + AllocGlobal, W: Write + Drop, S: RunStore>(
     rt: &'a R,
     out: W,
     store: S,
-    work: Work<'a>,
+    commands: &[WordsCommand<'a>],
 ) -> (io::Result<u8>, W, S)
-    ensures { IsFaithful S.StoreState result.2 → CameTo S.StoreState W.contents (Wants R.File.remaining work.entry) result.0 out result.1 store result.2 }
+    ensures { IsFaithful S.StoreState result.2
+        → CameTo S.StoreState W.contents (Wants R.File.remaining commands.now) result.0 out result.1 store result.2 }
 {
     let warehouse = Warehouse::new(store, Limits::standard());
     let mut session = Session::new(rt, out, warehouse);
-    let ended = session.run(work);
+    let ended = session.run(commands);
     let (status, out, warehouse) = session.finish();
     (ended.and(Ok(status)), out, warehouse.into_store())
 }

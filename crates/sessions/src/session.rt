@@ -1,94 +1,35 @@
 // Commands over an opened store, each with its answer printed as it is there.
-ghost use Rattle.std.specs.Prelude.{◌≡◌, ◌↔◌, Ok, IfOk, IsTrue, List, [], ◌∷◌, map};
-ghost use Rattle.run_stores.specs.Calls.{IsFaithful, IsUsable};
-ghost use Rattle.byte_io.specs.Outcomes.{Outcome};
-ghost use Rattle.histories.specs.Formats.{today};
-ghost use Rattle.histories.specs.History as history;
-ghost use Rattle.histories.specs.History.{History, Annotate, Ask, Import, Remove};
-ghost use Rattle.histories.specs.Legal.{IsInForm, IsLegal};
+ghost use Rattle.std.specs.Prelude.{◌≡◌, Ok, [], ◌∷◌};
+ghost use Rattle.run_stores.specs.Calls.{IsFaithful};
+ghost use Rattle.byte_io.specs.Imported.{WereRead};
+ghost use Rattle.histories.specs.History.{Ask};
 ghost use Rattle.histories.specs.declared.answers.Answer as given;
-ghost use Rattle.histories.specs.declared.answers.Answer.TheVariants as answers;
-ghost use Rattle.histories.specs.declared.answers.Query.TheVariants.{Csv};
-ghost use Rattle.store_histories.specs.Answered.{HasHistory};
-ghost use Rattle.warehouse.specs.Answered.{IsGivenFor, Says};
-ghost use Rattle.byte_io.specs.Imported.{FileReads, WereRead};
-ghost use Rattle.sessions.specs.Questions.{query_from, selection_from};
-ghost use Rattle.store_commands.specs.Changes.{command_from_change};
-ghost use Rattle.sessions.specs.Sessions.{AreImports, Prints, Wants, WasRun, WasTold, status_after};
+ghost use Rattle.requests.specs.Plain.{plain_request, plain_selection};
+ghost use Rattle.requests.specs.declared.queries.Query.TheVariants.{Csv};
+ghost use Rattle.warehouse.specs.Answered.{IsGivenFor};
+ghost use Rattle.sessions.specs.Sessions.{Prints, Wants, WasPerformed, WasRun, WasTold, path_in, status_after};
 
-use crate::questions::{Question, bytes_of, query_of, selection_of};
+use crate::commands::WordsCommand;
 use answer_lines::{is_refused, line_of};
 use byte_io::{FileSource, write_text};
-use cg_text::ListVec;
-use command_line::Selected;
 use cost_exports::{CellSums, Unwritten, write_csv};
-use histories::{Answer, Refusal, Selection};
-use profile_records::Kind;
-use run_stores::{RunStore, is_group_name};
+use histories::{Answer, Refusal};
+use requests::{Command, Query, Selection};
+use run_stores::RunStore;
 use shared_texts::TextSink;
-use std::alloc::{AllocError, Global};
+use std::alloc::AllocError;
 use std::io;
 use std::io::Write;
 use std::rt::Files;
-use warehouse::{Command, GroupChange, Warehouse};
+use warehouse::Warehouse;
 
-/// What is done over an opened store.
-#[derive(Drop)]
-pub enum Work<'a> {
-    /// Import the files at paths.
-    Import(Kind, ListVec<&'a str>),
-    /// Remove runs.
-    Remove(ListVec<u32>),
-    /// Change the group of a name.
-    Group(&'a str, GroupChange),
-    /// Ask a question.
-    Ask(Question<'a>),
-    /// Annotate the source at a path, by the name of its file in the runs.
-    Annotate {
-        selected: Selected<'a>,
-        event: &'a str,
-        file: &'a str,
-        source: &'a str,
-    },
-}
-
-/// What is asked of a source: of which runs, in which event, and by the name of which file.
-#[derive(Drop)]
-struct Asked {
-    selection: Selection,
-    event: ListVec<u8>,
-    file: ListVec<u8>,
-}
-
-/// What is asked of a source, from the words of a command line.
-fn asked_of(
-    alloc: Global,
-    selected: Selected<'_>,
-    event: &str,
-    file: &str,
-) -> Result<Asked, AllocError>
-    ensures { IfOk result (λ asked. asked ≡ record { selection = selection_from selected.entry; event = event.now; file = file.now }) }
+/// The path of the file that a command reads; an empty one where it reads none.
+fn path_of<'a>(command: &WordsCommand<'a>) -> &'a str
+    ensures { result.now ≡ path_in (plain_request command.now) }
 {
-    let selection = selection_of(alloc, selected)?;
-    let event = bytes_of(alloc, event)?;
-    let file = bytes_of(alloc, file)?;
-    Ok(Asked {
-        selection,
-        event,
-        file,
-    })
-}
-
-/// Whether a change is in form: a group that is made has a name of its own form.
-fn is_in_form(name: &str, change: GroupChange) -> bool
-    ensures { IsTrue result ↔ IsInForm (command_from_change change name.now) }
-{
-    match change {
-        GroupChange::Make => is_group_name(name),
-        GroupChange::Drop
-        | GroupChange::Join(_)
-        | GroupChange::Leave(_)
-        | GroupChange::SetBaseline(_) => true,
+    match command {
+        Command::Import { source, .. } | Command::Annotate { source, .. } => source,
+        _ => "",
     }
 }
 
@@ -175,78 +116,6 @@ impl<'a, R: Files + AllocGlobal, W: Write + Drop, S: RunStore> Session<'a, R, W,
         self.print(&answer)
     }
 
-    /// Refuses a command that the warehouse is not asked.
-    fn refuse(&mut self, refusal: Refusal) -> io::Result<()>
-        ensures limits { self.new.warehouse.limits ≡ self.old.warehouse.limits }
-        ensures answered { IsFaithful S.StoreState self.new.warehouse.store → (is : history.Command)
-            → ((h : History) → IsLegal self.old.warehouse.limits h is (answers.Refused refusal)) → WasTold S.StoreState W.contents is result self.old self.new }
-        ensures store { self.new.warehouse.store ≡ self.old.warehouse.store }
-    {
-        self.tell(Answer::Refused(refusal))
-    }
-
-    /// Runs a command that reads no file.
-    fn apply(&mut self, command: Command<FileSource<'a, R>>) -> io::Result<()>
-        ensures limits { self.new.warehouse.limits ≡ self.old.warehouse.limits }
-        ensures answered { IsFaithful S.StoreState self.new.warehouse.store → (is : history.Command) × Says (FileReads R.File.remaining) command.entry is
-            × WasTold S.StoreState W.contents is result self.old self.new }
-    {
-        let answer = self.warehouse.apply(self.rt.alloc(), command);
-        self.tell(answer)
-    }
-
-    /// Imports a file, under its path as its label.
-    fn import_file(&mut self, kind: Kind, path: &'a str) -> io::Result<()>
-        ensures limits { self.new.warehouse.limits ≡ self.old.warehouse.limits }
-        ensures answered { IsFaithful S.StoreState self.new.warehouse.store → (outcomes : List Outcome) × WereRead R.File.remaining outcomes
-            × WasTold S.StoreState W.contents (Import (today kind) path.now outcomes) result self.old self.new }
-    {
-        let mut source = FileSource::new(self.rt, path);
-        let label = path.as_bytes();
-        let answer = self
-            .warehouse
-            .import(self.rt.alloc(), kind, label, &mut source);
-        self.tell(answer)
-    }
-
-    /// Imports files, each under its path as its label.
-    fn import(&mut self, kind: Kind, paths: &[&'a str]) -> io::Result<()>
-        ensures limits { self.new.warehouse.limits ≡ self.old.warehouse.limits }
-        ensures done { IsFaithful S.StoreState self.new.warehouse.store
-            → WasRun S.StoreState W.contents (AreImports (WereRead R.File.remaining) kind (map (λ path. path.now) paths.now)) result self.old self.new }
-    {
-        for path in paths {
-            self.import_file(kind, path)?;
-        }
-        Ok(())
-    }
-
-    /// Removes runs.
-    fn remove(&mut self, numbers: &[u32]) -> io::Result<()>
-        ensures limits { self.new.warehouse.limits ≡ self.old.warehouse.limits }
-        ensures done { IsFaithful S.StoreState self.new.warehouse.store
-            → WasRun S.StoreState W.contents (λ list. list ≡ map Remove numbers.now) result self.old self.new }
-    {
-        for number in numbers {
-            self.apply(Command::Remove(*number))?;
-        }
-        Ok(())
-    }
-
-    /// Changes a group. A new group's name is looked at before memory is asked for it.
-    fn change_group(&mut self, name: &str, change: GroupChange) -> io::Result<()>
-        ensures limits { self.new.warehouse.limits ≡ self.old.warehouse.limits }
-        ensures answered { IsFaithful S.StoreState self.new.warehouse.store → WasTold S.StoreState W.contents (command_from_change change name.now) result self.old self.new }
-    {
-        if !is_in_form(name, change) {
-            return self.refuse(Refusal::BadName);
-        }
-        let Ok(name) = Vec::from_slice(self.rt.alloc(), name.as_bytes()) else {
-            return self.refuse(Refusal::Memory);
-        };
-        self.apply(Command::Group(name, change))
-    }
-
     /// Writes the text of sums as it is made. Where there is no memory from the start, it says so, and the
     /// session goes on.
     fn write_sums(&mut self, sums: &CellSums) -> io::Result<()>
@@ -263,78 +132,40 @@ impl<'a, R: Files + AllocGlobal, W: Write + Drop, S: RunStore> Session<'a, R, W,
     }
 
     /// Asks what places cost, and writes it as CSV.
-    fn ask_csv(&mut self, selected: Selected<'a>) -> io::Result<()>
+    fn ask_csv(&mut self, selection: &Selection<&[u8]>) -> io::Result<()>
         ensures limits { self.new.warehouse.limits ≡ self.old.warehouse.limits }
         ensures answered { IsFaithful S.StoreState self.new.warehouse.store
-            → WasTold S.StoreState W.contents (Ask (Csv (selection_from selected.entry))) result self.old self.new }
+            → WasTold S.StoreState W.contents (Ask (Csv (plain_selection selection.now))) result self.old self.new }
     {
-        let alloc = self.rt.alloc();
-        let Ok(selection) = selection_of(alloc, selected) else {
-            return self.refuse(Refusal::Memory);
-        };
-        match self.warehouse.csv(alloc, &selection) {
+        match self.warehouse.csv(self.rt.alloc(), selection) {
             Ok(sums) => self.write_sums(&sums),
             Err(answer) => self.tell(answer),
         }
     }
 
-    /// Asks a question.
-    fn ask(&mut self, question: Question<'a>) -> io::Result<()>
+    /// Does a command, and prints its answer.
+    fn perform(&mut self, command: &WordsCommand<'a>) -> io::Result<()>
         ensures limits { self.new.warehouse.limits ≡ self.old.warehouse.limits }
-        ensures answered { IsFaithful S.StoreState self.new.warehouse.store → WasTold S.StoreState W.contents (Ask (query_from question.entry)) result self.old self.new }
+        ensures answered { IsFaithful S.StoreState self.new.warehouse.store
+            → WasPerformed S.StoreState W.contents (WereRead R.File.remaining) (plain_request command.now) result self.old self.new }
     {
-        if let Question::Csv(selected) = question {
-            return self.ask_csv(selected);
+        if let Command::Ask(Query::Csv(selection)) = command {
+            return self.ask_csv(selection);
         }
-        match query_of(self.rt.alloc(), question) {
-            Ok(query) => self.apply(Command::Ask(query)),
-            Err(AllocError) => self.refuse(Refusal::Memory),
-        }
-    }
-
-    /// Annotates the source at a path.
-    fn annotate(
-        &mut self,
-        selected: Selected<'a>,
-        event: &'a str,
-        file: &'a str,
-        path: &'a str,
-    ) -> io::Result<()>
-        ensures limits { self.new.warehouse.limits ≡ self.old.warehouse.limits }
-        ensures answered { IsFaithful S.StoreState self.new.warehouse.store → (outcomes : List Outcome) × WereRead R.File.remaining outcomes
-            × WasTold S.StoreState W.contents (Annotate (selection_from selected.entry) event.now file.now outcomes) result self.old self.new }
-    {
+        let mut source = FileSource::new(self.rt, path_of(command));
         let alloc = self.rt.alloc();
-        let Ok(asked) = asked_of(alloc, selected, event, file) else {
-            return self.refuse(Refusal::Memory);
-        };
-        let mut source = FileSource::new(self.rt, path);
-        let answer = self.warehouse.annotate(
-            alloc,
-            asked.selection,
-            asked.event,
-            asked.file,
-            &mut source,
-        );
+        let answer = self.warehouse.perform(alloc, command, &mut source);
         self.tell(answer)
     }
 
-    /// Runs the commands that a work comes to, and prints their answers. It stops where printing fails.
-    pub fn run(&mut self, work: Work<'a>) -> io::Result<()>
+    /// Does commands, one after another, and prints their answers. It stops where printing fails.
+    pub fn run(&mut self, commands: &[WordsCommand<'a>]) -> io::Result<()>
         ensures limits { self.new.warehouse.limits ≡ self.old.warehouse.limits }
-        ensures done { IsFaithful S.StoreState self.new.warehouse.store → WasRun S.StoreState W.contents (Wants R.File.remaining work.entry) result self.old self.new }
+        ensures done { IsFaithful S.StoreState self.new.warehouse.store → WasRun S.StoreState W.contents (Wants R.File.remaining commands.now) result self.old self.new }
     {
-        match work {
-            Work::Import(kind, paths) => self.import(kind, paths.as_slice()),
-            Work::Remove(numbers) => self.remove(numbers.as_slice()),
-            Work::Group(name, change) => self.change_group(name, change),
-            Work::Ask(question) => self.ask(question),
-            Work::Annotate {
-                selected,
-                event,
-                file,
-                source,
-            } => self.annotate(selected, event, file, source),
+        for command in commands {
+            self.perform(command)?;
         }
+        Ok(())
     }
 }

@@ -17,6 +17,7 @@ use Rattle.report_texts.specs.Calls.{Calls, CallsRepresentEach, EventEdges, all_
 use Rattle.report_texts.specs.Functions.{function_spot, is_one_function}
 use Rattle.report_texts.specs.Inclusive.{is_frame}
 use Rattle.report_texts.specs.declared.call_sides.CallSide.{CallSide}
+use Rattle.report_texts.specs.declared.call_sides.CallSide.TheVariants as sides
 use Rattle.cost_reports.proofs.AddedLemmas.{calls_come_to}
 use Rattle.cost_reports.proofs.CallCostLemmas.{calls_are_records}
 use Rattle.prof_books.specs.Book.{cells_held, stacks_held}
@@ -26,17 +27,16 @@ use Rattle.profile_records.specs.Stacks.{Seen}
 use Rattle.named_rows.specs.Named.{AreCallsOf}
 use Rattle.histories.specs.Files.{records_of, stacks_of}
 use Rattle.histories.specs.History.{History, File, held}
-use Rattle.histories.specs.Legal.{expected_of_query, first_or, no_name, when}
+use Rattle.histories.specs.Legal.{expected_of_calls, expected_of_query, first_or, no_name, when}
 use Rattle.histories.specs.Reports.{calls_text, event_records, is_seen_in, knows, tells_of}
 use Rattle.histories.specs.Selections.{selected}
 use Rattle.histories.specs.Representation.{TablesRepresent}
 use Rattle.histories.specs.Told.{CallsSum}
 use Rattle.histories.specs.declared.answers.Answer.{Answer}
 use Rattle.histories.specs.declared.answers.Answer.TheVariants.{Text, Refused}
-use Rattle.histories.specs.declared.answers.Query.TheVariants as queries
 use Rattle.histories.specs.declared.answers.Refusal.{Refusal}
 use Rattle.histories.specs.declared.answers.Refusal.TheVariants.{NoSuchName}
-use Rattle.histories.specs.declared.answers.Selection.{Selection}
+use Rattle.requests.specs.Plain.{Selection, calls_query}
 use Rattle.histories.proofs.Runs.{tells_rows}
 use Rattle.histories.proofs.Tests.{any-append}
 use Rattle.store_histories.specs.FromTables.{AnswersFor, text_or_no_name}
@@ -348,7 +348,7 @@ calls_stand h t event represent (f ∷ files) (run ∷ runs) (r ∷ rows) all ar
 -- ---- the answers
 
 expected_of : (h : History) (t : Tables) (s : Selection) (side : CallSide) (event object name : List ℕ) (runs : List Counted) (text : Option (List ℕ)) → TablesRepresent h t → AreEventRuns h t s event (Ok runs)
-    → IsCallsText t runs side (function_spot object name) event text → text_or_no_name text ≡ expected_of_query h (queries.Calls s side event object name)
+    → IsCallsText t runs side (function_spot object name) event text → text_or_no_name text ≡ expected_of_calls h s side event object name
 expected_of h t s side event object name runs text represent found is =
     let f = function_spot object name in
     let files = selected h s in
@@ -368,16 +368,21 @@ expected_of h t s side event object name runs text represent found is =
     go false text = refl
 
 refused_of : (h : History) (t : Tables) (s : Selection) (side : CallSide) (event object name : List ℕ) (refusal : Refusal) → AreEventRuns h t s event (Err refusal)
-    → Refused refusal ≡ expected_of_query h (queries.Calls s side event object name)
+    → Refused refusal ≡ expected_of_calls h s side event object name
 refused_of h t s side event object name refusal found =
     let f = function_spot object name in
     sym (found (no_name f (selected h s) ∷ []) (Text (calls_text side f (selected h s) event)))
 
 expected_by : (h : History) (t : Tables) (s : Selection) (side : CallSide) (event object name : List ℕ) (found : Result (List Counted) Refusal) (answer : Answer) → TablesRepresent h t → AreEventRunsIn t s event found
-    → AnswersFor (λ runs. ShowsCalls t runs side (function_spot object name) event) found answer → answer ≡ expected_of_query h (queries.Calls s side event object name)
+    → AnswersFor (λ runs. ShowsCalls t runs side (function_spot object name) event) found answer → answer ≡ expected_of_calls h s side event object name
 expected_by h t s side event object name (Ok runs) answer represent found is = is.2 ∙ expected_of h t s side event object name runs is.0 represent (event_runs_told h t s event (Ok runs) represent found) is.1
 expected_by h t s side event object name (Err refusal) answer represent found is = is ∙ refused_of h t s side event object name refusal (event_runs_told h t s event (Err refusal) represent found)
 
+is_query : (h : History) (s : Selection) (side : CallSide) (event object name : List ℕ) → expected_of_calls h s side event object name ≡ expected_of_query h (calls_query side s event object name)
+is_query h s sides.Callers event object name = refl
+is_query h s sides.Callees event object name = refl
+
 pub calls_are_expected : (s : Selection) (side : CallSide) (event object name : List ℕ) (h : History) (t : Tables) (answer : Answer) → TablesRepresent h t → AreCallsShown t s side event object name answer
-    → answer ≡ expected_of_query h (queries.Calls s side event object name)
-calls_are_expected s side event object name h t answer represent is = expected_by h t s side event object name is.found answer represent is.is_found is.answer_is
+    → answer ≡ expected_of_query h (calls_query side s event object name)
+calls_are_expected s side event object name h t answer represent is =
+    expected_by h t s side event object name is.found answer represent is.is_found is.answer_is ∙ is_query h s side event object name

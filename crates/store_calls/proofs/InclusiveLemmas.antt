@@ -40,9 +40,9 @@ use Rattle.histories.specs.Representation.{TablesRepresent}
 use Rattle.histories.specs.Told.{CallsSum, RowsAgree}
 use Rattle.histories.specs.declared.answers.Answer.{Answer}
 use Rattle.histories.specs.declared.answers.Answer.TheVariants.{Text, Refused}
-use Rattle.histories.specs.declared.answers.Query.TheVariants.{Inclusive}
+use Rattle.requests.specs.declared.queries.Query.TheVariants.{Inclusive}
 use Rattle.histories.specs.declared.answers.Refusal.{Refusal}
-use Rattle.histories.specs.declared.answers.Selection.{Selection}
+use Rattle.requests.specs.Plain.{Selection}
 use Rattle.histories.proofs.Runs.{tells_rows}
 use Rattle.store_histories.specs.FromTables.{AnswersFor, ShowsText}
 use Rattle.selected_runs.specs.Added.{AreAdded}

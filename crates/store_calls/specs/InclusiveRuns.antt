@@ -18,7 +18,7 @@ use Rattle.run_stores.specs.Names.{AreApart}
 use Rattle.number_sums.specs.Named.{AreOf}
 use Rattle.number_sums.specs.Sums.{numbers_told}
 use Rattle.histories.specs.declared.answers.Answer.{Answer}
-use Rattle.histories.specs.declared.answers.Selection.{Selection}
+use Rattle.requests.specs.Plain.{Selection}
 use Rattle.store_histories.specs.FromTables.{AnswersBy, ShowsText}
 use Rattle.selected_runs.specs.EventRuns.{AreEventRunsIn}
 use Rattle.selected_runs.specs.declared.counting.Counted.{Counted}

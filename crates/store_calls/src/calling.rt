@@ -5,7 +5,7 @@ ghost use Rattle.std.specs.Result.{is_ok};
 ghost use Rattle.report_texts.specs.Calls.{call_report_of, call_report_text};
 ghost use Rattle.report_texts.specs.Functions.{function_spot};
 ghost use Rattle.run_stores.specs.Calls.{Told, AsksIfOpen};
-ghost use Rattle.histories.specs.declared.answers.Query.TheVariants.{Calls};
+ghost use Rattle.requests.specs.Plain.{calls_query, plain_selection};
 ghost use Rattle.store_histories.specs.Answered.{AnswersAsked};
 ghost use Rattle.store_calls.specs.FunctionCalls.{AreCallsShown, IsCallsText, is_in_rows, text_taken};
 ghost use Rattle.store_calls.specs.KeptCalls.{IsAsked, kept_of, spot_asked, sums_named, taken_named};
@@ -15,9 +15,9 @@ use crate::kept_calls::KeepsCalls;
 use crate::kept_rows::KeptCalls;
 use crate::known_names::is_in_runs;
 use crate::named_calls::{numbers_of, sums_named};
-use cg_text::ListVec;
 use cost_reports::{CallSide, CallSums, calls};
-use histories::{Answer, Refusal, Selection};
+use histories::{Answer, Refusal};
+use requests::Selection;
 use run_stores::{RunStore, StoreError};
 use selected_runs::{Counted, RunFold, event_runs, fold_runs};
 use shared_texts::SharedText;
@@ -153,24 +153,22 @@ fn calls_text<S: RunStore>(
 pub fn calls_answer<S: RunStore>(
     store: &mut S,
     alloc: Global,
-    selection: &Selection,
+    selection: &Selection<&[u8]>,
     side: CallSide,
-    event: &ListVec<u8>,
-    object: &ListVec<u8>,
-    function: &ListVec<u8>,
+    event: &[u8],
+    object: &[u8],
+    function: &[u8],
     most: usize,
 ) -> Result<Answer, StoreError>
-    ensures { AnswersAsked S.StoreState (λ t. AreCallsShown t selection.now side event.now object.now function.now)
-        (Calls selection.now side event.now object.now function.now) result store.old store.new }
+    ensures { AnswersAsked S.StoreState (λ t. AreCallsShown t (plain_selection selection.now) side event.now object.now function.now)
+        (calls_query side (plain_selection selection.now) event.now object.now function.now) result store.old store.new }
 {
-    let event = event.as_slice();
     let runs = match event_runs(store, alloc, selection, event)? {
         Ok(runs) => runs,
         Err(refusal) => return Ok(Answer::Refused(refusal)),
     };
-    let (object, name) = (object.as_slice(), function.as_slice());
     let runs = runs.as_slice();
-    match calls_text(store, alloc, runs, side, event, object, name, most)? {
+    match calls_text(store, alloc, runs, side, event, object, function, most)? {
         Some(text) => Ok(Answer::Text(text)),
         None => Ok(Answer::Refused(Refusal::NoSuchName)),
     }

@@ -7,16 +7,16 @@ ghost use Rattle.profile_records.specs.declared.kinds.Kind.TheVariants.{Callgrin
 ghost use Rattle.plain_tables.specs.RunRows.{cells_in};
 ghost use Rattle.run_stores.specs.Calls.{Asks, AsksIfOpen, Told};
 ghost use Rattle.run_stores.specs.Walks.{IsOfAnEvent};
-ghost use Rattle.histories.specs.declared.answers.Query.TheVariants.{Inclusive};
+ghost use Rattle.requests.specs.Plain.{plain_selection};
+ghost use Rattle.requests.specs.declared.queries.Query.TheVariants.{Inclusive};
 ghost use Rattle.store_histories.specs.Answered.{AnswersAsked};
 ghost use Rattle.store_calls.specs.InclusiveParts.{AreNamesFor, sums_in};
 ghost use Rattle.store_calls.specs.InclusiveRuns.{AddsHeld, AreRowsCounted, AreRowsOfKind, IsInclusive, IsInclusiveText, IsTextNamed};
 
 use crate::inclusive_parts::InclusiveParts;
 use crate::inclusive_sums::InclusiveRows;
-use cg_text::ListVec;
 use cost_reports::{InclusiveSums, inclusive};
-use histories::{Answer, Selection};
+use histories::Answer;
 use profile_records::Kind;
 use run_stores::{NameTable, RunStore, StoreError};
 use selected_runs::{Counted, RunFold, event_runs, fold_runs};
@@ -171,13 +171,13 @@ fn inclusive_text<S: RunStore>(
 pub fn inclusive_answer<S: RunStore>(
     store: &mut S,
     alloc: Global,
-    selection: &Selection,
-    event: &ListVec<u8>,
+    selection: &Selection<&[u8]>,
+    event: &[u8],
     most: usize,
 ) -> Result<Answer, StoreError>
-    ensures { AnswersAsked S.StoreState (λ t. IsInclusive t selection.now event.now) (Inclusive selection.now event.now) result store.old store.new }
+    ensures { AnswersAsked S.StoreState (λ t. IsInclusive t (plain_selection selection.now) event.now)
+        (Inclusive (plain_selection selection.now) event.now) result store.old store.new }
 {
-    let event = event.as_slice();
     let runs = match event_runs(store, alloc, selection, event)? {
         Ok(runs) => runs,
         Err(refusal) => return Ok(Answer::Refused(refusal)),

@@ -8,7 +8,7 @@ use Rattle.histories.specs.Legal.{expected_of_query}
 use Rattle.histories.specs.Representation.{TablesRepresent}
 use Rattle.histories.specs.declared.answers.Answer.{Answer}
 use Rattle.histories.specs.declared.answers.Answer.TheVariants.{Text}
-use Rattle.histories.specs.declared.answers.Query.TheVariants.{Runs, Groups}
+use Rattle.requests.specs.declared.queries.Query.TheVariants.{Runs, Groups}
 use Rattle.histories.proofs.Texts.{tells_runs_text, tells_groups_text}
 use Rattle.store_histories.specs.FromTables.{ShowsText}
 use Rattle.store_commands.specs.Lists.{IsListOfRuns, IsListOfGroups}

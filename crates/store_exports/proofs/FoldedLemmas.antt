@@ -20,9 +20,9 @@ use Rattle.histories.specs.Selections.{numbers_of, selected}
 use Rattle.histories.specs.Representation.{TablesRepresent}
 use Rattle.histories.specs.declared.answers.Answer.{Answer}
 use Rattle.histories.specs.declared.answers.Answer.TheVariants.{Text, Refused}
-use Rattle.histories.specs.declared.answers.Query.TheVariants as queries
+use Rattle.requests.specs.declared.queries.Query.TheVariants as queries
 use Rattle.histories.specs.declared.answers.Refusal.{Refusal}
-use Rattle.histories.specs.declared.answers.Selection.{Selection}
+use Rattle.requests.specs.Plain.{Selection}
 use Rattle.histories.proofs.Runs.{tells_rows}
 use Rattle.store_histories.specs.FromTables.{AnswersFor}
 use Rattle.selected_runs.specs.Added.{AreAdded}

@@ -9,7 +9,7 @@ use Rattle.plain_tables.specs.Tables.{Tables}
 use Rattle.run_stores.specs.Names.{is_number}
 use Rattle.run_stores.specs.Walks.{cell_numbers}
 use Rattle.histories.specs.declared.answers.Answer.{Answer}
-use Rattle.histories.specs.declared.answers.Selection.{Selection}
+use Rattle.requests.specs.Plain.{Selection}
 use Rattle.store_histories.specs.FromTables.{AnswersBy, text_or_no_name}
 use Rattle.selected_runs.specs.Counted.{event_cells}
 use Rattle.selected_runs.specs.EventRuns.{AreEventRunsIn}

@@ -6,7 +6,7 @@ use Rattle.prof_books.specs.Book.{stacks_held}
 use Rattle.plain_tables.specs.Tables.{Tables}
 use Rattle.histories.specs.declared.answers.Answer.{Answer}
 use Rattle.histories.specs.declared.answers.Answer.TheVariants.{Text}
-use Rattle.histories.specs.declared.answers.Selection.{Selection}
+use Rattle.requests.specs.Plain.{Selection}
 use Rattle.store_histories.specs.FromTables.{AnswersBy}
 use Rattle.selected_runs.specs.Selected.{AreSelectedIn}
 

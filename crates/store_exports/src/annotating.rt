@@ -6,14 +6,15 @@ ghost use Rattle.plain_tables.specs.RunRows.{cells_in};
 ghost use Rattle.report_texts.specs.Annotations.{annotation_of, annotation_text};
 ghost use Rattle.run_stores.specs.Calls.{Told, AsksIfOpen};
 ghost use Rattle.run_stores.specs.Walks.{IsOfAnEvent};
-ghost use Rattle.histories.specs.declared.answers.Query.TheVariants.{Annotate};
+ghost use Rattle.requests.specs.Plain.{plain_selection};
+ghost use Rattle.requests.specs.declared.queries.Query.TheVariants.{Annotate};
 ghost use Rattle.store_histories.specs.Answered.{AnswersAsked};
 ghost use Rattle.store_exports.specs.Annotated.{IsAnnotated, annotated_over, numbered_from};
 
 use crate::sinks::LineRows;
-use cg_text::ListVec;
 use cost_exports::{LineSums, annotate};
-use histories::{Answer, Refusal, Selection};
+use histories::{Answer, Refusal};
+use requests::Selection;
 use run_stores::{RunStore, StoreError};
 use selected_runs::{Counted, RunFold, event_runs, fold_runs};
 use shared_texts::SharedText;
@@ -111,21 +112,19 @@ fn annotated_text<S: RunStore>(
 pub fn annotate_answer<S: RunStore>(
     store: &mut S,
     alloc: Global,
-    selection: &Selection,
-    event: &ListVec<u8>,
-    name: &ListVec<u8>,
-    source: &ListVec<u8>,
+    selection: &Selection<&[u8]>,
+    event: &[u8],
+    name: &[u8],
+    source: &[u8],
     most: usize,
 ) -> Result<Answer, StoreError>
-    ensures { AnswersAsked S.StoreState (λ t. IsAnnotated t selection.now event.now name.now source.now)
-        (Annotate selection.now event.now name.now source.now) result store.old store.new }
+    ensures { AnswersAsked S.StoreState (λ t. IsAnnotated t (plain_selection selection.now) event.now name.now source.now)
+        (Annotate (plain_selection selection.now) event.now name.now source.now) result store.old store.new }
 {
-    let event = event.as_slice();
     let runs = match event_runs(store, alloc, selection, event)? {
         Ok(runs) => runs,
         Err(refusal) => return Ok(Answer::Refused(refusal)),
     };
-    let (name, source) = (name.as_slice(), source.as_slice());
     let runs = runs.as_slice();
     match annotated_text(store, alloc, runs, event, name, source, most)? {
         Some(text) => Ok(Answer::Text(text)),

@@ -7,13 +7,15 @@ ghost use Rattle.plain_tables.specs.RunRows.{cells_in};
 ghost use Rattle.run_stores.specs.Calls.{Told, AsksIfOpen};
 ghost use Rattle.run_stores.specs.Walks.{IsOfAnEvent};
 ghost use Rattle.prof_books.specs.HeldHeads.{IsHeadIn};
-ghost use Rattle.histories.specs.declared.answers.Query.TheVariants.{Csv};
+ghost use Rattle.requests.specs.Plain.{plain_selection};
+ghost use Rattle.requests.specs.declared.queries.Query.TheVariants.{Csv};
 ghost use Rattle.store_histories.specs.Answered.{AnswersAsked};
 ghost use Rattle.store_exports.specs.CsvRuns.{AddsRun, AreSums, IsCsv, csv_asked};
 
 use crate::sinks::NamedRows;
 use cost_exports::{CellSums, csv_text};
-use histories::{Answer, Refusal, Selection};
+use histories::{Answer, Refusal};
+use requests::Selection;
 use named_rows::each_named_cell;
 use run_stores::{RunStore, StoreError};
 use selected_runs::{RunFold, fold_runs, select_runs};
@@ -87,9 +89,9 @@ fn sums_of_runs<S: RunStore>(
 pub fn csv_sums<S: RunStore>(
     store: &mut S,
     alloc: Global,
-    selection: &Selection,
+    selection: &Selection<&[u8]>,
 ) -> Result<Result<CellSums, Refusal>, StoreError>
-    ensures { AnswersAsked S.StoreState (λ t. IsCsv t selection.now) (Csv selection.now) (csv_asked result) store.old store.new }
+    ensures { AnswersAsked S.StoreState (λ t. IsCsv t (plain_selection selection.now)) (Csv (plain_selection selection.now)) (csv_asked result) store.old store.new }
 {
     let numbers = match select_runs(store, alloc, selection)? {
         Ok(numbers) => numbers,
@@ -104,10 +106,10 @@ pub fn csv_sums<S: RunStore>(
 pub fn csv_answer<S: RunStore>(
     store: &mut S,
     alloc: Global,
-    selection: &Selection,
+    selection: &Selection<&[u8]>,
     most: usize,
 ) -> Result<Answer, StoreError>
-    ensures { AnswersAsked S.StoreState (λ t. IsCsv t selection.now) (Csv selection.now) result store.old store.new }
+    ensures { AnswersAsked S.StoreState (λ t. IsCsv t (plain_selection selection.now)) (Csv (plain_selection selection.now)) result store.old store.new }
 {
     match csv_sums(store, alloc, selection)? {
         Ok(sums) => {

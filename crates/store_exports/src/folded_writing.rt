@@ -3,13 +3,15 @@ ghost use Rattle.std.specs.Prelude.{◌≡◌, ◌≤◌, length, IfOk};
 ghost use Rattle.std.specs.Result.{is_ok};
 ghost use Rattle.report_texts.specs.Folded.{folded_text};
 ghost use Rattle.run_stores.specs.Calls.{Told, AsksIfOpen};
-ghost use Rattle.histories.specs.declared.answers.Query.TheVariants.{Folded};
+ghost use Rattle.requests.specs.Plain.{plain_selection};
+ghost use Rattle.requests.specs.declared.queries.Query.TheVariants.{Folded};
 ghost use Rattle.store_histories.specs.Answered.{AnswersAsked};
 ghost use Rattle.store_exports.specs.FoldedRuns.{IsFolded, folded_over};
 
 use crate::sinks::StackRows;
 use cost_exports::{StackSums, folded_text};
-use histories::{Answer, Selection};
+use histories::Answer;
+use requests::Selection;
 use run_stores::{RunStore, StoreError};
 use selected_runs::{RunFold, fold_runs, select_runs};
 use shared_texts::SharedText;
@@ -67,10 +69,10 @@ fn text_of_runs<S: RunStore>(
 pub fn folded_answer<S: RunStore>(
     store: &mut S,
     alloc: Global,
-    selection: &Selection,
+    selection: &Selection<&[u8]>,
     most: usize,
 ) -> Result<Answer, StoreError>
-    ensures { AnswersAsked S.StoreState (λ t. IsFolded t selection.now) (Folded selection.now) result store.old store.new }
+    ensures { AnswersAsked S.StoreState (λ t. IsFolded t (plain_selection selection.now)) (Folded (plain_selection selection.now)) result store.old store.new }
 {
     let numbers = match select_runs(store, alloc, selection)? {
         Ok(numbers) => numbers,

@@ -12,7 +12,7 @@ use Rattle.histories.specs.Legal.{IsInForm, expected_answer, expected_of_query}
 use Rattle.histories.specs.Representation.{TablesRepresent}
 use Rattle.histories.specs.declared.answers.Answer.{Answer}
 use Rattle.histories.specs.declared.answers.Answer.TheVariants as answers
-use Rattle.histories.specs.declared.answers.Query.{Query}
+use Rattle.requests.specs.Plain.{Query}
 use Rattle.histories.specs.declared.limits.Limits.{Limits}
 use Rattle.histories.proofs.Held.{IsStill}
 use Rattle.store_histories.specs.Answered.{Answers, Follows, RepresentsHistory, WasAsked, WasExpected, answer_for, has_changed, is_accepted}

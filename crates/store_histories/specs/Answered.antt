@@ -13,7 +13,7 @@ use Rattle.histories.specs.declared.answers.Answer.{Answer}
 use Rattle.histories.specs.declared.answers.Answer.TheVariants as answers
 use Rattle.histories.specs.declared.answers.Refusal.TheVariants as reasons
 use Rattle.histories.specs.declared.limits.Limits.{Limits}
-use Rattle.histories.specs.declared.answers.Query.{Query}
+use Rattle.requests.specs.Plain.{Query}
 
 -- whether an answer says that the tables changed
 abbrev pub is_accepted : Answer → Bool

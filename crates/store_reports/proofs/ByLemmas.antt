@@ -12,9 +12,9 @@ use Rattle.histories.specs.Selections.{selected}
 use Rattle.histories.specs.Representation.{TablesRepresent}
 use Rattle.histories.specs.declared.answers.Answer.{Answer}
 use Rattle.histories.specs.declared.answers.Answer.TheVariants.{Text, Refused}
-use Rattle.histories.specs.declared.answers.Query.TheVariants.{By}
+use Rattle.requests.specs.declared.queries.Query.TheVariants.{By}
 use Rattle.histories.specs.declared.answers.Refusal.{Refusal}
-use Rattle.histories.specs.declared.answers.Selection.{Selection}
+use Rattle.requests.specs.Plain.{Selection}
 use Rattle.store_histories.specs.FromTables.{AnswersFor}
 use Rattle.selected_runs.specs.EventRuns.{AreEventRuns, AreEventRunsIn}
 use Rattle.selected_runs.specs.declared.counting.Counted.{Counted}

@@ -14,9 +14,9 @@ use Rattle.histories.specs.Representation.{TablesRepresent, event_rows_from}
 use Rattle.histories.specs.Sums.{self_column}
 use Rattle.histories.specs.declared.answers.Answer.{Answer}
 use Rattle.histories.specs.declared.answers.Answer.TheVariants.{Text, Refused}
-use Rattle.histories.specs.declared.answers.Query.TheVariants.{Verify}
+use Rattle.requests.specs.declared.queries.Query.TheVariants.{Verify}
 use Rattle.histories.specs.declared.answers.Refusal.{Refusal}
-use Rattle.histories.specs.declared.answers.Selection.{Selection}
+use Rattle.requests.specs.Plain.{Selection}
 use Rattle.store_reports.specs.Checked.{IsChecked, IsRunChecked, IsVerified, AreChecked}
 use Rattle.store_histories.specs.FromTables.{AnswersFor, ShowsText}
 use Rattle.selected_runs.specs.Added.{AreAdded}

@@ -15,11 +15,11 @@ use Rattle.histories.specs.Selections.{numbers_of, selected}
 use Rattle.histories.specs.Representation.{TablesRepresent}
 use Rattle.histories.specs.declared.answers.Answer.{Answer}
 use Rattle.histories.specs.declared.answers.Answer.TheVariants.{Text, Refused}
-use Rattle.histories.specs.declared.answers.Query.TheVariants.{Subtract}
+use Rattle.requests.specs.declared.queries.Query.TheVariants.{Subtract}
 use Rattle.histories.specs.declared.answers.Refusal.{Refusal}
 use Rattle.histories.specs.declared.answers.Refusal.TheVariants.{NoBaseline, NoSuchEvent}
-use Rattle.histories.specs.declared.answers.Selection.{Selection}
-use Rattle.histories.specs.declared.answers.Selection.TheVariants as selections
+use Rattle.requests.specs.Plain.{Selection}
+use Rattle.requests.specs.declared.selections.Selection.TheVariants as selections
 use Rattle.histories.proofs.Runs.{tells_group_of}
 use Rattle.histories.proofs.Tests.{any-append, bytes-self}
 use Rattle.store_histories.specs.FromTables.{AnswersBy, AnswersFor}

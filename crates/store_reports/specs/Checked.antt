@@ -9,7 +9,7 @@ use Rattle.prof_books.specs.Book.{CellIsNamed}
 use Rattle.prof_books.specs.HeldHeads.{IsHeadIn}
 use Rattle.run_stores.specs.SelfSums.{AreSelfSums, events_of_run}
 use Rattle.histories.specs.declared.answers.Answer.{Answer}
-use Rattle.histories.specs.declared.answers.Selection.{Selection}
+use Rattle.requests.specs.Plain.{Selection}
 use Rattle.store_histories.specs.FromTables.{AnswersBy, ShowsText}
 use Rattle.selected_runs.specs.Selected.{AreSelectedIn}
 use Rattle.store_reports.specs.CellSums.{AreOfCells}

@@ -17,8 +17,8 @@ use Rattle.histories.specs.declared.answers.Answer.{Answer}
 use Rattle.histories.specs.declared.answers.Answer.TheVariants.{Text, Refused}
 use Rattle.histories.specs.declared.answers.Refusal.{Refusal}
 use Rattle.histories.specs.declared.answers.Refusal.TheVariants.{NoBaseline, NoSuchEvent}
-use Rattle.histories.specs.declared.answers.Selection.{Selection}
-use Rattle.histories.specs.declared.answers.Selection.TheVariants as selections
+use Rattle.requests.specs.Plain.{Selection}
+use Rattle.requests.specs.declared.selections.Selection.TheVariants as selections
 use Rattle.store_histories.specs.FromTables.{AnswersBy}
 use Rattle.selected_runs.specs.Counted.{AreCounted, event_cells, has_counts}
 use Rattle.selected_runs.specs.Selected.{AreSelectedIn, IsSought, run_in}

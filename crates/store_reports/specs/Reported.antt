@@ -18,7 +18,7 @@ use Rattle.number_sums.specs.declared.parts.NumberPart.{NumberPart}
 use Rattle.number_sums.specs.Sums.{SumsByNumber, numbers_told, numbers_total, with_number}
 use Rattle.histories.specs.declared.answers.Answer.{Answer}
 use Rattle.histories.specs.declared.answers.Answer.TheVariants.{Text}
-use Rattle.histories.specs.declared.answers.Selection.{Selection}
+use Rattle.requests.specs.Plain.{Selection}
 use Rattle.store_histories.specs.FromTables.{AnswersBy}
 use Rattle.selected_runs.specs.Counted.{event_cells}
 use Rattle.selected_runs.specs.EventRuns.{AreEventRunsIn}

@@ -4,7 +4,8 @@ ghost use Rattle.std.specs.Result.{is_ok};
 ghost use Rattle.report_texts.specs.Verifying.{verified, verify_text};
 ghost use Rattle.run_stores.specs.Calls.{Told, AsksIfOpen};
 ghost use Rattle.prof_books.specs.HeldHeads.{IsHeadIn};
-ghost use Rattle.histories.specs.declared.answers.Query.TheVariants.{Verify};
+ghost use Rattle.requests.specs.Plain.{plain_selection};
+ghost use Rattle.requests.specs.declared.queries.Query.TheVariants.{Verify};
 ghost use Rattle.store_histories.specs.Answered.{AnswersAsked};
 ghost use Rattle.store_reports.specs.Checked.{IsChecked, IsVerified, AreChecked};
 
@@ -12,7 +13,8 @@ use crate::cell_sums::check_cells;
 use cg_formulas::FileHead;
 use cg_text::ListVec;
 use cost_reports::verify;
-use histories::{Answer, Selection};
+use histories::Answer;
+use requests::Selection;
 use run_stores::{RunStore, StoreError};
 use selected_runs::{RunFold, fold_runs, select_runs};
 use shared_texts::SharedText;
@@ -121,10 +123,10 @@ fn check_runs<S: RunStore>(
 pub fn verify_answer<S: RunStore>(
     store: &mut S,
     alloc: Global,
-    selection: &Selection,
+    selection: &Selection<&[u8]>,
     most: usize,
 ) -> Result<Answer, StoreError>
-    ensures { AnswersAsked S.StoreState (λ t. IsVerified t selection.now) (Verify selection.now) result store.old store.new }
+    ensures { AnswersAsked S.StoreState (λ t. IsVerified t (plain_selection selection.now)) (Verify (plain_selection selection.now)) result store.old store.new }
 {
     let numbers = match select_runs(store, alloc, selection)? {
         Ok(numbers) => numbers,

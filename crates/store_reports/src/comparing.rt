@@ -1,21 +1,22 @@
 // The answers to questions of differences.
-ghost use Rattle.std.specs.Prelude.{◌≡◌, ◌++◌, false, List, IfOk};
+ghost use Rattle.std.specs.Prelude.{◌≡◌, ◌++◌, false, List, IfOk, option_map};
 ghost use Rattle.std.specs.Result.{is_ok};
 ghost use Rattle.report_texts.specs.Differences.{difference_of, difference_text};
 ghost use Rattle.plain_tables.specs.Tables.{NameRow};
 ghost use Rattle.run_stores.specs.Calls.{Asks, Told, AsksIfOpen};
 ghost use Rattle.number_sums.specs.Named.{AreOf};
 ghost use Rattle.number_sums.specs.Sums.{numbers_told};
-ghost use Rattle.histories.specs.declared.answers.Query.TheVariants.{Subtract};
+ghost use Rattle.requests.specs.Plain.{plain_selection};
+ghost use Rattle.requests.specs.declared.queries.Query.TheVariants.{Subtract};
 ghost use Rattle.store_histories.specs.Answered.{AnswersAsked, has_changed};
 ghost use Rattle.store_reports.specs.Compared.{AnswersDifference, AreBaselineIn, AreComparedIn, IsSubtracted, difference_over, named_sums};
 
 use crate::merging::number_runs;
-use cg_text::ListVec;
 use cost_reports::{LentSums, subtract};
 use cost_rows::Key;
-use histories::{Answer, Refusal, Selection};
+use histories::{Answer, Refusal};
 use number_sums::NumberSums;
+use requests::Selection;
 use run_stores::{NameTable, RunStore, StoreError};
 use selected_runs::{Counted, Numbers, count_runs, have_event, name_text, one_run, select_runs};
 use shared_texts::SharedText;
@@ -40,17 +41,17 @@ fn baseline_run<S: RunStore>(
 fn compared_runs<S: RunStore>(
     store: &mut S,
     alloc: Global,
-    first: &Selection,
-    second: &Option<Selection>,
+    first: &Selection<&[u8]>,
+    second: &Option<Selection<&[u8]>>,
 ) -> Result<Numbers, StoreError>
-    ensures told { Told S.StoreState result store.old store.new (λ t found. AreComparedIn t first.now second.now found) }
+    ensures told { Told S.StoreState result store.old store.new (λ t found. AreComparedIn t (plain_selection first.now) (option_map plain_selection second.now) found) }
     ensures asks { AsksIfOpen S.StoreState (is_ok result) store.old store.new }
 {
     if let Some(second) = second {
         return select_runs(store, alloc, second);
     }
     match first {
-        Selection::Group(name) => baseline_run(store, alloc, name.as_slice()),
+        Selection::Group(name) => baseline_run(store, alloc, name),
         _ => Ok(Err(Refusal::NoBaseline)),
     }
 }
@@ -152,14 +153,14 @@ fn answer_difference<S: RunStore>(
 pub fn subtract_answer<S: RunStore>(
     store: &mut S,
     alloc: Global,
-    first: &Selection,
-    second: &Option<Selection>,
+    first: &Selection<&[u8]>,
+    second: &Option<Selection<&[u8]>>,
     key: Key,
-    event: &ListVec<u8>,
+    event: &[u8],
     most: usize,
 ) -> Result<Answer, StoreError>
-    ensures { AnswersAsked S.StoreState (λ t. IsSubtracted t first.now second.now key event.now)
-        (Subtract first.now second.now key event.now) result store.old store.new }
+    ensures { AnswersAsked S.StoreState (λ t. IsSubtracted t (plain_selection first.now) (option_map plain_selection second.now) key event.now)
+        (Subtract (plain_selection first.now) (option_map plain_selection second.now) key event.now) result store.old store.new }
 {
     let numbers = match select_runs(store, alloc, first)? {
         Ok(numbers) => numbers,
@@ -175,7 +176,7 @@ pub fn subtract_answer<S: RunStore>(
         numbers.as_slice(),
         others.as_slice(),
         key,
-        event.as_slice(),
+        event,
         most,
     )
 }

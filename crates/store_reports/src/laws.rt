@@ -6,7 +6,7 @@ ghost use Rattle.report_texts.specs.declared.cuts.Cut.{Cut};
 ghost use Rattle.histories.specs.History.{History};
 ghost use Rattle.histories.specs.Reports.{report_by, self_costs};
 ghost use Rattle.histories.specs.Selections.{selected};
-ghost use Rattle.histories.specs.declared.answers.Selection.{Selection};
+ghost use Rattle.requests.specs.Plain.{Selection};
 
 /// What a report shows, and what is left, sum to what the self records of the selected files cost in the
 /// event, as the line grammar reads them: for every selection, event, key and cut.

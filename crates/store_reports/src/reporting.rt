@@ -11,16 +11,17 @@ ghost use Rattle.prof_books.specs.Book.{IsHeld};
 ghost use Rattle.run_stores.specs.Calls.{AsksIfOpen, Told};
 ghost use Rattle.number_sums.specs.Named.{named_sum};
 ghost use Rattle.number_sums.specs.Sums.{numbers_told};
-ghost use Rattle.histories.specs.declared.answers.Query.TheVariants.{By};
+ghost use Rattle.requests.specs.Plain.{plain_selection};
+ghost use Rattle.requests.specs.declared.queries.Query.TheVariants.{By};
 ghost use Rattle.store_histories.specs.Answered.{AnswersAsked};
 ghost use Rattle.store_reports.specs.Reported.{AreShown, IsReported, report_over};
 
 use crate::merging::number_runs;
-use cg_text::ListVec;
 use cost_reports::{Cut, by};
 use cost_rows::Key;
-use histories::{Answer, Selection};
+use histories::Answer;
 use number_sums::{NumberSums, RankedSums};
+use requests::Selection;
 use run_stores::{NameTable, RunStore, StoreError};
 use selected_runs::{Counted, event_runs};
 use shared_texts::SharedText;
@@ -97,15 +98,15 @@ fn report_text<S: RunStore>(
 pub fn by_answer<S: RunStore>(
     store: &mut S,
     alloc: Global,
-    selection: &Selection,
+    selection: &Selection<&[u8]>,
     key: Key,
-    event: &ListVec<u8>,
+    event: &[u8],
     cut: Cut,
     most: usize,
 ) -> Result<Answer, StoreError>
-    ensures { AnswersAsked S.StoreState (λ t. IsReported t selection.now key event.now cut) (By selection.now key event.now cut) result store.old store.new }
+    ensures { AnswersAsked S.StoreState (λ t. IsReported t (plain_selection selection.now) key event.now cut)
+        (By (plain_selection selection.now) key event.now cut) result store.old store.new }
 {
-    let event = event.as_slice();
     let runs = match event_runs(store, alloc, selection, event)? {
         Ok(runs) => runs,
         Err(refusal) => return Ok(Answer::Refused(refusal)),

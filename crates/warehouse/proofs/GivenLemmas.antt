@@ -11,7 +11,7 @@ use Rattle.report_texts.specs.Csv.{EventSpot, csv_text}
 use Rattle.histories.specs.History.{Ask}
 use Rattle.histories.specs.declared.answers.Answer.{Answer}
 use Rattle.histories.specs.declared.answers.Answer.TheVariants.{Text}
-use Rattle.histories.specs.declared.answers.Query.{Query}
+use Rattle.requests.specs.Plain.{Query}
 use Rattle.histories.specs.declared.limits.Limits.{Limits}
 use Rattle.store_histories.specs.Answered.{Answers, AnswersAsked, answer_for}
 use Rattle.store_histories.proofs.Questions.{question_answered}

@@ -9,11 +9,10 @@ use Rattle.histories.specs.declared.answers.Answer.{Answer}
 use Rattle.histories.specs.declared.limits.Limits.{Limits}
 use Rattle.store_histories.specs.Answered.{HasHistory}
 use Rattle.store_histories.proofs.Links.{links_on, links_legal, links_after}
-use Rattle.warehouse.specs.Answered.{Says, AreCommandsOf, WasAnswered, WasRun}
-use Rattle.warehouse.specs.declared.command.Command as commands
+use Rattle.warehouse.specs.Answered.{AreCommandsOf, Lent, Says, WasAnswered, WasRun}
 
 module _ {R : Type 0} (reads : R → Outcome → R → Type 0) where
-  said_on : (list : List (commands.Command R)) (steps : History) (one : commands.Command R) (step : Step) → AreCommandsOf reads list steps → Says reads one step.command → AreCommandsOf reads (list ++ one ∷ []) (steps ++ step ∷ [])
+  said_on : (list : List (Lent R)) (steps : History) (one : Lent R) (step : Step) → AreCommandsOf reads list steps → Says reads one step.command → AreCommandsOf reads (list ++ one ∷ []) (steps ++ step ∷ [])
   said_on [] [] one step all is = (is, tt)
   said_on [] (t ∷ steps) one step all is = absurd all
   said_on (c ∷ list) [] one step all is = absurd all
@@ -23,7 +22,7 @@ module _ {S R : Type 0} (g : Ghosts S) (reads : R → Outcome → R → Type 0) 
   pub run_nothing : (store : S) → WasRun g reads limits [] [] store store
   run_nothing store = record { steps = []; command = tt; answered = refl; links = refl; legal = λ h has. tt; after = λ h has. subst (λ l. HasHistory g l store) (sym (append-nil h)) has }
 
-  pub run_on : (list : List (commands.Command R)) (given : List Answer) (old mid new : S) → WasRun g reads limits list given old mid → (one : commands.Command R) (answer : Answer) → WasAnswered g reads limits one answer mid new → IsFaithful g new
+  pub run_on : (list : List (Lent R)) (given : List Answer) (old mid new : S) → WasRun g reads limits list given old mid → (one : Lent R) (answer : Answer) → WasAnswered g reads limits one answer mid new → IsFaithful g new
       → WasRun g reads limits (list ++ one ∷ []) (given ++ answer ∷ []) old new
   run_on list given old mid new w one answer is clean =
       let step : Step = record { command = is.command; answer = answer } in

@@ -1,11 +1,11 @@
 -- What commands say, and what a list of them is answered and leaves.
 use Rattle.std.specs.Prelude.{◌≡◌, ◌⊎◌, ℕ, ◌≤◌, map, List, [], ◌∷◌, ◌++◌, length, Result, Ok, Err}
+use Rattle.std.specs.Borrow.{Bor}
 use Rattle.run_stores.specs.declared.states.StoreState.{Ghosts}
 use Rattle.run_stores.specs.Calls.{IsFaithful}
 use Rattle.byte_io.specs.Outcomes.{Outcome}
 use Rattle.report_texts.specs.Csv.{EventSpot, csv_text}
-use Rattle.histories.specs.Formats.{today}
-use Rattle.histories.specs.History.{History, Command, Step, Import, Remove, Ask, Annotate}
+use Rattle.histories.specs.History.{History, Command, Step}
 use Rattle.histories.specs.Legal.{AreLegal}
 use Rattle.histories.specs.declared.answers.Answer.{Answer}
 use Rattle.histories.specs.declared.answers.Answer.TheVariants as answers
@@ -15,29 +15,41 @@ use Rattle.byte_io.specs.Reads.{Reads}
 use Rattle.byte_io.specs.declared.reading.Unread.{Unread}
 use Rattle.byte_io.specs.declared.reading.Unread.TheVariants as unread
 use Rattle.store_histories.specs.Answered.{HasHistory, Answers, Links}
-use Rattle.store_commands.specs.Changes.{command_from_change}
-use Rattle.warehouse.specs.declared.command.Command as commands
-use Rattle.warehouse.specs.declared.command.Command.TheVariants as input
+use Rattle.histories.specs.Requests.{command_read}
+use Rattle.requests.specs.Plain.{plain_command}
+use Rattle.requests.specs.declared.commands.Command as commands
+use Rattle.requests.specs.declared.commands.Command.TheVariants as input
+
+-- a command whose names are lent
+abbrev pub Lent : Type 0 → Type 0
+Lent R = commands.Command R (Bor (List ℕ))
+
+-- a command that reads nothing
+abbrev pub ReadsNone : {R : Type 0} → Lent R → Type 0
+ReadsNone (input.Import kind label source) = ⊥
+ReadsNone (input.Annotate selection event file source) = ⊥
+ReadsNone command = Unit {0}
 
 -- ---- what a command says
 
 module _ {R : Type 0} (reads : R → Outcome → R → Type 0) where
-  -- an import or an annotation, with what the reads of its source came to
-  abbrev pub Says : commands.Command R → Command → Type 0
-  Says (input.Import kind label source) command = (outcomes : List Outcome) × (to : R) × Reads reads source outcomes to × (command ≡ Import (today kind) label.items outcomes)
-  Says (input.Remove n) command = command ≡ Remove n
-  Says (input.Group name change) command = command ≡ command_from_change change name.items
-  Says (input.Ask query) command = command ≡ Ask query
-  Says (input.Annotate selection event file source) command = (outcomes : List Outcome) × (to : R) × Reads reads source outcomes to × (command ≡ Annotate selection event file outcomes)
+  -- with what the reads of its source came to
+  abbrev pub SaysRead : Lent R → R → Command → Type 0
+  SaysRead one source command = (outcomes : List Outcome) × (to : R) × Reads reads source outcomes to × (command ≡ command_read (plain_command one) outcomes)
 
-  abbrev pub AreCommandsOf : List (commands.Command R) → History → Type 0
+  abbrev pub Says : Lent R → Command → Type 0
+  Says (input.Import kind label source) command = SaysRead (input.Import kind label source) source command
+  Says (input.Annotate selection event file source) command = SaysRead (input.Annotate selection event file source) source command
+  Says one command = command ≡ command_read (plain_command one) []
+
+  abbrev pub AreCommandsOf : List (Lent R) → History → Type 0
   AreCommandsOf [] [] = Unit {0}
   AreCommandsOf (one ∷ more) (step ∷ later) = Says one step.command × AreCommandsOf more later
   AreCommandsOf more later = ⊥
 
 module _ {S R : Type 0} (g : Ghosts S) (reads : R → Outcome → R → Type 0) where
   -- a command was answered, whatever its source came to; that holds over every disk, and where the disk returned what was written, the answer is one of the history
-  pub record WasAnswered (limits : Limits) (one : commands.Command R) (answer : Answer) (old new : S) : Type 0 where
+  pub record WasAnswered (limits : Limits) (one : Lent R) (answer : Answer) (old new : S) : Type 0 where
     pub command : Command
     pub says : Says reads one command
     pub answers : IsFaithful g new → Answers g limits command answer old new
@@ -49,7 +61,7 @@ module _ {S R : Type 0} (g : Ghosts S) (reads : R → Outcome → R → Type 0) 
     pub answers : IsFaithful g new → Answers g limits (command outcomes) answer old new
 
   -- commands were run: each is a step from the store that the one before left, and is given its answer; after a history that the store has, each answer is legal, and the store has the history with all steps
-  pub record WasRun (limits : Limits) (list : List (commands.Command R)) (given : List Answer) (old new : S) : Type 0 where
+  pub record WasRun (limits : Limits) (list : List (Lent R)) (given : List Answer) (old new : S) : Type 0 where
     pub steps : History
     pub command : AreCommandsOf reads list steps
     pub answered : map (λ (step : Step). step.answer) steps ≡ given
@@ -72,12 +84,10 @@ IsShort most answers.Done = Unit {0}
 IsShort most (answers.Refused refusal) = Unit {0}
 
 -- the same of what is asked; no other command is answered with a text
-abbrev pub IsShortFor : {R : Type 0} → ℕ → commands.Command R → Answer → Type 0
+abbrev pub IsShortFor : {R : Type 0} → ℕ → Lent R → Answer → Type 0
 IsShortFor most (input.Ask query) answer = IsShort most answer
 IsShortFor most (input.Annotate selection event file source) answer = IsShort most answer
-IsShortFor most (input.Import kind label source) answer = Unit {0}
-IsShortFor most (input.Remove n) answer = Unit {0}
-IsShortFor most (input.Group name change) answer = Unit {0}
+IsShortFor most command answer = Unit {0}
 
 -- sums are given for their text, or where there is no memory for it for the refusal of that; else the answer is given
 abbrev pub IsGivenFor : Answer → Result (List (EventSpot × ℕ)) Answer → Type 0

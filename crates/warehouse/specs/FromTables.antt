@@ -10,10 +10,8 @@ use Rattle.byte_io.specs.declared.reading.Unread.{Unread}
 use Rattle.histories.specs.Legal.{most_of_source}
 use Rattle.histories.specs.declared.answers.Answer.{Answer}
 use Rattle.histories.specs.declared.answers.Answer.TheVariants as answers
-use Rattle.histories.specs.declared.answers.Query.{Query}
-use Rattle.histories.specs.declared.answers.Query.TheVariants as queries
+use Rattle.requests.specs.declared.queries.Query.TheVariants as queries
 use Rattle.histories.specs.declared.answers.Refusal.TheVariants as reasons
-use Rattle.histories.specs.declared.answers.Selection.{Selection}
 use Rattle.store_calls.specs.FunctionCalls.{AreCallsShown}
 use Rattle.store_calls.specs.InclusiveRuns.{IsInclusive}
 use Rattle.plain_tables.specs.Labels.{IsGroupName, IsLabel}
@@ -31,9 +29,13 @@ use Rattle.store_histories.specs.FromTables.{OrFailed, ShowsText, WasChangedIn}
 use Rattle.store_reports.specs.Checked.{IsVerified}
 use Rattle.store_reports.specs.Compared.{IsSubtracted}
 use Rattle.store_reports.specs.Reported.{IsReported}
-use Rattle.warehouse.specs.Answered.{unread_for}
-use Rattle.warehouse.specs.declared.command.Command as commands
-use Rattle.warehouse.specs.declared.command.Command.TheVariants as input
+use Rattle.requests.specs.Plain.{Query, Selection, plain_command, plain_selection}
+use Rattle.requests.specs.declared.commands.Command as commands
+use Rattle.requests.specs.declared.commands.Command.TheVariants as input
+use Rattle.report_texts.specs.declared.call_sides.CallSide.TheVariants as sides
+use Rattle.store_commands.specs.declared.changes.GroupChange.{GroupChange}
+use Rattle.store_commands.specs.declared.changes.GroupChange.TheVariants as changes
+use Rattle.warehouse.specs.Answered.{Lent, unread_for}
 
 -- by what the lines say
 abbrev pub AnswersIn : Query → Tables → Answer → Type 0
@@ -42,11 +44,28 @@ AnswersIn queries.Groups t answer = ShowsText (IsListOfGroups t) answer
 AnswersIn (queries.By selection key event cut) t answer = IsReported t selection key event cut answer
 AnswersIn (queries.Verify selection) t answer = IsVerified t selection answer
 AnswersIn (queries.Inclusive selection event) t answer = IsInclusive t selection event answer
-AnswersIn (queries.Calls selection side event object function) t answer = AreCallsShown t selection side event object function answer
+AnswersIn (queries.Callers selection event object function) t answer = AreCallsShown t selection sides.Callers event object function answer
+AnswersIn (queries.Callees selection event object function) t answer = AreCallsShown t selection sides.Callees event object function answer
 AnswersIn (queries.Subtract first second key event) t answer = IsSubtracted t first second key event answer
 AnswersIn (queries.Annotate selection event file source) t answer = IsAnnotated t selection event file source answer
 AnswersIn (queries.Csv selection) t answer = IsCsv t selection answer
 AnswersIn (queries.Folded selection) t answer = IsFolded t selection answer
+
+-- a command that reads no source is answered by what the lines say; and where the tables hold these lines, what it removes or makes of groups is made of them
+module _ {S : Type 0} (g : Ghosts S) where
+  -- a group is changed under a name that a group can have
+  abbrev pub GroupIsFound : Limits → GroupChange → List ℕ → Answer → S → S → Type 0
+  GroupIsFound limits change name answer old new = IsGroupName name → WasChangedIn g (GroupsIn limits change name) answer old new
+
+  abbrev pub IsFoundOf : {P : Type 0} → Limits → commands.Command P (List ℕ) → Answer → S → S → Type 0
+  IsFoundOf limits (input.Ask query) answer old new = Tells g old new (λ t. OrFailed (AnswersIn query t) answer)
+  IsFoundOf limits (input.Remove n) answer old new = WasChangedIn g (RemovesIn n) answer old new
+  IsFoundOf limits (input.MakeGroup name) answer old new = GroupIsFound limits changes.Make name answer old new
+  IsFoundOf limits (input.DropGroup name) answer old new = GroupIsFound limits changes.Drop name answer old new
+  IsFoundOf limits (input.Join name n) answer old new = GroupIsFound limits (changes.Join n) name answer old new
+  IsFoundOf limits (input.Leave name n) answer old new = GroupIsFound limits (changes.Leave n) name answer old new
+  IsFoundOf limits (input.SetBaseline name n) answer old new = GroupIsFound limits (changes.SetBaseline n) name answer old new
+  IsFoundOf limits command answer old new = ⊥
 
 module _ {S R : Type 0} (g : Ghosts S) (reads : R → Outcome → R → Type 0) where
   -- a source was not read through; or what it gave is annotated by what the lines say
@@ -64,10 +83,14 @@ module _ {S R : Type 0} (g : Ghosts S) (reads : R → Outcome → R → Type 0) 
         ⊎ ((unread : Unread) × IsUnreadFor limits.bytes outcomes unread × (answer ≡ unread_for unread))
         ⊎ ((parsed : ParsedFile) × HasEnded limits.bytes outcomes × IsParsedOf kind (bytes_of outcomes) parsed × WasChangedIn g (IsImported limits kind label parsed) answer old new)
 
-  -- each command is answered by what the lines say; and where the tables hold these lines, what it imports, removes or makes of groups is made of them
-  abbrev pub IsFoundIn : Limits → commands.Command R → Answer → S → S → Type 0
-  IsFoundIn limits (input.Ask query) answer old new = Tells g old new (λ t. OrFailed (AnswersIn query t) answer)
-  IsFoundIn limits (input.Annotate selection event file source) answer old new = (to : R) × WasAnnotated selection event file source to answer old new
-  IsFoundIn limits (input.Remove n) answer old new = WasChangedIn g (RemovesIn n) answer old new
-  IsFoundIn limits (input.Group name change) answer old new = IsGroupName name.items → WasChangedIn g (GroupsIn limits change name.items) answer old new
-  IsFoundIn limits (input.Import kind label source) answer old new = (to : R) × WasImported limits kind label.items source to answer old new
+  -- each command is answered by what the lines say; and where the tables hold these lines, what it imports, removes or makes of groups is made of them. The reads of its source led from the one state to the other
+  abbrev pub IsFoundOver : {P : Type 0} → Limits → commands.Command P (List ℕ) → R → R → Answer → S → S → Type 0
+  IsFoundOver limits (input.Import kind label source) from to answer old new = WasImported limits kind label from to answer old new
+  IsFoundOver limits (input.Annotate selection event file source) from to answer old new = WasAnnotated selection event file from to answer old new
+  IsFoundOver limits command from to answer old new = IsFoundOf g limits command answer old new
+
+  -- the same of a command that has its source with it
+  abbrev pub IsFoundIn : Limits → Lent R → Answer → S → S → Type 0
+  IsFoundIn limits (input.Import kind label source) answer old new = (to : R) × WasImported limits kind label.now source to answer old new
+  IsFoundIn limits (input.Annotate selection event file source) answer old new = (to : R) × WasAnnotated (plain_selection selection) event.now file.now source to answer old new
+  IsFoundIn limits command answer old new = IsFoundOf g limits (plain_command command) answer old new

@@ -1,29 +1,32 @@
-// Files are imported and sources annotated, each with its answer.
-ghost use Rattle.std.specs.Prelude.{◌≡◌, ◌⊎◌, Err, IfOk};
+// Commands over a store, each with its answer.
+ghost use Rattle.std.specs.Prelude.{◌≡◌, ◌⊎◌, Err, IfOk, []};
 ghost use Rattle.plain_tables.specs.Labels.{IsLabel};
 ghost use Rattle.plain_tables.specs.declared.errors.StoreError.TheVariants.{Memory};
 ghost use Rattle.run_stores.specs.Calls.{IsFaithful, Tells};
 ghost use Rattle.histories.specs.Formats.{today};
 ghost use Rattle.histories.specs.History.{Annotate, Ask, Import};
+ghost use Rattle.histories.specs.Requests.{command_read};
 ghost use Rattle.histories.specs.declared.answers.Answer.{Answer};
-ghost use Rattle.histories.specs.declared.answers.Query.TheVariants.{Csv};
+ghost use Rattle.requests.specs.Plain.{plain_command, plain_query, plain_selection};
+ghost use Rattle.requests.specs.declared.queries.Query.TheVariants.{Csv};
 ghost use Rattle.store_histories.specs.Answered.{Answers, AnswersAsked};
 ghost use Rattle.store_histories.specs.FromTables.{OrFailed};
-ghost use Rattle.warehouse.specs.Answered.{IsGivenFor, IsShort, WasAnsweredOver};
-ghost use Rattle.warehouse.specs.FromTables.{AnswersIn, WasAnnotated, WasImported};
+ghost use Rattle.warehouse.specs.Answered.{IsGivenFor, IsShort, IsShortFor, ReadsNone, WasAnsweredOver};
+ghost use Rattle.warehouse.specs.FromTables.{AnswersIn, IsFoundOf, WasAnnotated, WasImported};
 
 use crate::refusals::unread_answer;
 use byte_io::{Source, read_to_end};
-use cg_text::ListVec;
 use cost_exports::CellSums;
 use file_reading::parse_file;
-use histories::{Answer, Limits, Query, Refusal, Selection};
+use histories::{Answer, Limits, Refusal};
 use profile_records::Kind;
+use report_texts::CallSide;
+use requests::{Command, Query, Selection};
 use run_imports::{import_parsed, label_of};
 use run_stores::{RunStore, StoreError};
 use std::alloc::Global;
 use store_calls::{calls_answer, inclusive_answer};
-use store_commands::{groups_answer, runs_answer};
+use store_commands::{GroupChange, change_in, groups_answer, remove_in, runs_answer};
 use store_exports::{annotate_answer, csv_answer, csv_sums, folded_answer};
 use store_histories::answer_of;
 use store_reports::{by_answer, subtract_answer, verify_answer};
@@ -73,9 +76,9 @@ fn answer<S: RunStore>(
     store: &mut S,
     alloc: Global,
     most: usize,
-    query: Query,
+    query: &Query<&[u8]>,
 ) -> Result<Answer, StoreError>
-    ensures { AnswersAsked S.StoreState (AnswersIn query) query result store.old store.new }
+    ensures { AnswersAsked S.StoreState (AnswersIn (plain_query query.now)) (plain_query query.now) result store.old store.new }
 {
     match query {
         Query::Runs => runs_answer(store, alloc, most),
@@ -85,34 +88,41 @@ fn answer<S: RunStore>(
             key,
             event,
             cut,
-        } => by_answer(store, alloc, &selection, key, &event, cut, most),
-        Query::Verify(selection) => verify_answer(store, alloc, &selection, most),
-        Query::Inclusive { selection, event } => inclusive_answer(
-            store, alloc, &selection, &event, most,
-        ),
-        Query::Calls {
+        } => by_answer(store, alloc, selection, *key, event, *cut, most),
+        Query::Verify(selection) => verify_answer(store, alloc, selection, most),
+        Query::Inclusive { selection, event } => {
+            inclusive_answer(store, alloc, selection, event, most)
+        }
+        Query::Callers {
             selection,
-            side,
             event,
             object,
             function,
         } => calls_answer(
-            store, alloc, &selection, side, &event, &object, &function, most,
+            store, alloc, selection, CallSide::Callers, event, object, function, most,
+        ),
+        Query::Callees {
+            selection,
+            event,
+            object,
+            function,
+        } => calls_answer(
+            store, alloc, selection, CallSide::Callees, event, object, function, most,
         ),
         Query::Subtract {
             first,
             second,
             key,
             event,
-        } => subtract_answer(store, alloc, &first, &second, key, &event, most),
+        } => subtract_answer(store, alloc, first, second, *key, event, most),
         Query::Annotate {
             selection,
             event,
             file,
             source,
-        } => annotate_answer(store, alloc, &selection, &event, &file, &source, most),
-        Query::Csv(selection) => csv_answer(store, alloc, &selection, most),
-        Query::Folded(selection) => folded_answer(store, alloc, &selection, most),
+        } => annotate_answer(store, alloc, selection, event, file, source, most),
+        Query::Csv(selection) => csv_answer(store, alloc, selection, most),
+        Query::Folded(selection) => folded_answer(store, alloc, selection, most),
     }
 }
 
@@ -130,9 +140,15 @@ fn keep_short(answered: Result<Answer, StoreError>, most: usize) -> Result<Answe
 }
 
 /// Answers a question.
-pub(crate) fn ask_in<S: RunStore>(store: &mut S, alloc: Global, most: usize, query: Query) -> Answer
-    ensures answered { (limits : _) → IsFaithful S.StoreState store.new → Answers S.StoreState limits (Ask query) result store.old store.new }
-    ensures found { Tells S.StoreState store.old store.new (λ t. OrFailed (AnswersIn query t) result) }
+fn ask_in<S: RunStore>(
+    store: &mut S,
+    alloc: Global,
+    most: usize,
+    query: &Query<&[u8]>,
+) -> Answer
+    ensures answered { (limits : _) → IsFaithful S.StoreState store.new
+        → Answers S.StoreState limits (Ask (plain_query query.now)) result store.old store.new }
+    ensures found { Tells S.StoreState store.old store.new (λ t. OrFailed (AnswersIn (plain_query query.now) t) result) }
     ensures short { IsShort most result }
 {
     let answered = answer(store, alloc, most, query);
@@ -144,20 +160,21 @@ pub(crate) fn annotate_in<S: RunStore, R: Source>(
     store: &mut S,
     alloc: Global,
     most: usize,
-    selection: Selection,
-    event: ListVec<u8>,
-    file: ListVec<u8>,
+    selection: &Selection<&[u8]>,
+    event: &[u8],
+    file: &[u8],
     source: &mut R,
 ) -> Answer
     ensures answered { (limits : _)
-        → WasAnsweredOver S.StoreState R.reads limits (Annotate selection event file) source.old source.new result store.old store.new }
-    ensures found { WasAnnotated S.StoreState R.reads selection event file source.old source.new result store.old store.new }
+        → WasAnsweredOver S.StoreState R.reads limits (Annotate (plain_selection selection.now) event.now file.now) source.old source.new
+        result store.old store.new }
+    ensures found { WasAnnotated S.StoreState R.reads (plain_selection selection.now) event.now file.now source.old source.new
+        result store.old store.new }
     ensures short { IsShort most result }
 {
     match read_to_end(alloc, SOURCE_BYTES, source) {
         Ok(text) => {
-            let text = ListVec::from_vec(text);
-            let answered = annotate_answer(store, alloc, &selection, &event, &file, &text, most);
+            let answered = annotate_answer(store, alloc, selection, event, file, &text, most);
             answer_of(keep_short(answered, most))
         }
         Err(unread) => unread_answer(unread),
@@ -168,15 +185,46 @@ pub(crate) fn annotate_in<S: RunStore, R: Source>(
 pub(crate) fn csv_in<S: RunStore>(
     store: &mut S,
     alloc: Global,
-    selection: &Selection,
+    selection: &Selection<&[u8]>,
 ) -> Result<CellSums, Answer>
-    ensures answered { (answer : Answer) → IsGivenFor answer result
-        → (limits : _) → IsFaithful S.StoreState store.new → Answers S.StoreState limits (Ask (Csv selection.now)) answer store.old store.new }
-    ensures found { (answer : Answer) → IsGivenFor answer result → Tells S.StoreState store.old store.new (λ t. OrFailed (AnswersIn (Csv selection.now) t) answer) }
+    ensures answered { (answer : Answer) → IsGivenFor answer result → (limits : _) → IsFaithful S.StoreState store.new
+        → Answers S.StoreState limits (Ask (Csv (plain_selection selection.now))) answer store.old store.new }
+    ensures found { (answer : Answer) → IsGivenFor answer result
+        → Tells S.StoreState store.old store.new (λ t. OrFailed (AnswersIn (Csv (plain_selection selection.now)) t) answer) }
 {
     match csv_sums(store, alloc, selection) {
         Ok(Ok(sums)) => Ok(sums),
         Ok(Err(refusal)) => Err(Answer::Refused(refusal)),
         Err(failure) => Err(answer_of(Err(failure))),
+    }
+}
+
+/// Does what a command says that reads no source, and answers it.
+pub(crate) fn act_in<S: RunStore, P>(
+    store: &mut S,
+    alloc: Global,
+    limits: Limits,
+    most: usize,
+    command: &Command<P, &[u8]>,
+) -> Answer
+    requires { ReadsNone command.now }
+    ensures answered { IsFaithful S.StoreState store.new
+        → Answers S.StoreState limits (command_read (plain_command command.now) []) result store.old store.new }
+    ensures found { IsFoundOf S.StoreState limits (plain_command command.now) result store.old store.new }
+    ensures short { IsShortFor most command.now result }
+{
+    match command {
+        Command::Remove(number) => remove_in(store, *number),
+        Command::MakeGroup(name) => change_in(store, limits, name, GroupChange::Make),
+        Command::DropGroup(name) => change_in(store, limits, name, GroupChange::Drop),
+        Command::Join(name, number) => change_in(store, limits, name, GroupChange::Join(*number)),
+        Command::Leave(name, number) => {
+            change_in(store, limits, name, GroupChange::Leave(*number))
+        }
+        Command::SetBaseline(name, number) => {
+            change_in(store, limits, name, GroupChange::SetBaseline(*number))
+        }
+        Command::Ask(query) => ask_in(store, alloc, most, query),
+        _ => unreachable!(),
     }
 }

@@ -2,26 +2,26 @@
 ghost use Rattle.std.specs.Prelude.{◌≡◌, IfOk, OnErr};
 ghost use Rattle.run_stores.specs.Calls.{IsFaithful, Tells};
 ghost use Rattle.histories.specs.Formats.{today};
-ghost use Rattle.histories.specs.History.{Annotate, Ask, Import};
+ghost use Rattle.histories.specs.History.{Ask, Import};
+ghost use Rattle.histories.specs.Requests.{command_read};
 ghost use Rattle.histories.specs.declared.answers.Answer.{Answer};
-ghost use Rattle.histories.specs.declared.answers.Query.TheVariants.{Csv};
+ghost use Rattle.requests.specs.Plain.{plain_command, plain_selection};
+ghost use Rattle.requests.specs.declared.queries.Query.TheVariants.{Csv};
 ghost use Rattle.store_histories.specs.Answered.{Answers};
 ghost use Rattle.store_histories.specs.FromTables.{OrFailed};
-ghost use Rattle.warehouse.specs.Answered.{IsGivenFor, IsShort, IsShortFor, WasAnswered, WasAnsweredOver, WasRun};
-ghost use Rattle.warehouse.specs.FromTables.{AnswersIn, IsFoundIn, WasAnnotated, WasImported};
+ghost use Rattle.warehouse.specs.Answered.{IsGivenFor, IsShortFor, ReadsNone, WasAnswered, WasAnsweredOver, WasRun};
+ghost use Rattle.warehouse.specs.FromTables.{AnswersIn, IsFoundIn, IsFoundOver, WasImported};
 
-use crate::answering::{annotate_in, ask_in, csv_in, import_in};
-use crate::command::Command;
+use crate::answering::{act_in, annotate_in, csv_in, import_in};
 use crate::warehouse::Warehouse;
 use byte_io::Source;
-use cg_text::ListVec;
 use cost_exports::CellSums;
-use histories::{Answer, Selection};
+use histories::Answer;
 use profile_records::Kind;
+use requests::{Command, Selection};
 use run_stores::RunStore;
 use std::alloc::{AllocError, Global};
 use std::collections::VecDeque;
-use store_commands::{change_in, remove_in};
 
 impl<S: RunStore> Warehouse<S> {
     /// Imports the file that a source gives, a piece at a time. The source is read to its end even
@@ -42,56 +42,60 @@ impl<S: RunStore> Warehouse<S> {
         import_in(&mut self.store, alloc, self.limits, kind, label, source)
     }
 
-    /// Shows what each line of a source costs in an event, by the name of its file in the runs of a
-    /// selection. The source is read first, a piece at a time and to its end, unless a read fails, memory
-    /// is refused or it is longer than 16,777,216 bytes.
-    pub fn annotate<R: Source>(
-        &mut self,
-        alloc: Global,
-        selection: Selection,
-        event: ListVec<u8>,
-        file: ListVec<u8>,
-        source: &mut R,
-    ) -> Answer
-        ensures limits { self.new.limits ≡ self.old.limits }
-        ensures short { IsShort self.old.most result }
-        ensures answered { WasAnsweredOver S.StoreState R.reads self.old.limits (Annotate selection event file) source.old source.new
-            result self.old.store self.new.store }
-        ensures found { WasAnnotated S.StoreState R.reads selection event file source.old source.new result self.old.store self.new.store }
-    {
-        annotate_in(
-            &mut self.store,
-            alloc,
-            self.most,
-            selection,
-            event,
-            file,
-            source,
-        )
-    }
-
     /// Sums up what places cost over the runs of a selection, so that who asks can write their text as it is
     /// made: that text is the answer to the question, or where there is no memory for it the refusal of that.
     /// A question that is refused is answered as such.
-    pub fn csv(&mut self, alloc: Global, selection: &Selection) -> Result<CellSums, Answer>
+    pub fn csv(&mut self, alloc: Global, selection: &Selection<&[u8]>) -> Result<CellSums, Answer>
         ensures limits { self.new.limits ≡ self.old.limits }
         ensures answered { (answer : Answer) → IsGivenFor answer result → IsFaithful S.StoreState self.new.store
-            → Answers S.StoreState self.old.limits (Ask (Csv selection.now)) answer self.old.store self.new.store }
+            → Answers S.StoreState self.old.limits (Ask (Csv (plain_selection selection.now))) answer self.old.store self.new.store }
         ensures found { (answer : Answer) → IsGivenFor answer result
-            → Tells S.StoreState self.old.store self.new.store (λ t. OrFailed (AnswersIn (Csv selection.now) t) answer) }
+            → Tells S.StoreState self.old.store self.new.store (λ t. OrFailed (AnswersIn (Csv (plain_selection selection.now)) t) answer) }
     {
         csv_in(&mut self.store, alloc, selection)
     }
 
-    /// Does what a command says, and answers it. A refused command changes nothing. Over tables that
-    /// another program filled, and that represent no history, a question is answered by what their lines
-    /// say, and an import, a removal or a change of a group makes of them what it says; or it is refused. A text
-    /// that is longer than it may be is refused as one that there is no memory for.
-    pub fn apply<R: Source + Drop>(&mut self, alloc: Global, command: Command<R>) -> Answer
+    /// Does what a command says, and answers it. Where it imports a file or annotates a source, the bytes of that come
+    /// from `source`, which is read a piece at a time and to its end, unless a read fails, memory is refused or it is
+    /// longer than it may be; no other command reads it. A refused command changes nothing. Over tables that another
+    /// program filled, and that represent no history, a question is answered by what their lines say, and an import, a
+    /// removal or a change of a group makes of them what it says; or it is refused. A text that is longer than it may be
+    /// is refused as one that there is no memory for.
+    pub fn perform<P, R: Source>(
+        &mut self,
+        alloc: Global,
+        command: &Command<P, &[u8]>,
+        source: &mut R,
+    ) -> Answer
         ensures limits { self.new.limits ≡ self.old.limits }
-        ensures short { IsShortFor self.old.most command result }
-        ensures answered { WasAnswered S.StoreState R.reads self.old.limits command result self.old.store self.new.store }
-        ensures found { IsFoundIn S.StoreState R.reads self.old.limits command result self.old.store self.new.store }
+        ensures short { IsShortFor self.old.most command.now result }
+        ensures unread { ReadsNone command.now → source.new ≡ source.old }
+        ensures answered { WasAnsweredOver S.StoreState R.reads self.old.limits (command_read (plain_command command.now)) source.old source.new
+            result self.old.store self.new.store }
+        ensures found { IsFoundOver S.StoreState R.reads self.old.limits (plain_command command.now) source.old source.new
+            result self.old.store self.new.store }
+    {
+        let store = &mut self.store;
+        match command {
+            Command::Import { kind, label, .. } => {
+                import_in(store, alloc, self.limits, *kind, label, source)
+            }
+            Command::Annotate {
+                selection,
+                event,
+                file,
+                ..
+            } => annotate_in(store, alloc, self.most, selection, event, file, source),
+            other => act_in(store, alloc, self.limits, self.most, other),
+        }
+    }
+
+    /// The same, where the source of a command comes with it.
+    pub fn apply<R: Source + Drop>(&mut self, alloc: Global, command: Command<R, &[u8]>) -> Answer
+        ensures limits { self.new.limits ≡ self.old.limits }
+        ensures short { IsShortFor self.old.most command.entry result }
+        ensures answered { WasAnswered S.StoreState R.reads self.old.limits command.entry result self.old.store self.new.store }
+        ensures found { IsFoundIn S.StoreState R.reads self.old.limits command.entry result self.old.store self.new.store }
     {
         let store = &mut self.store;
         match command {
@@ -99,23 +103,22 @@ impl<S: RunStore> Warehouse<S> {
                 kind,
                 label,
                 mut source,
-            } => import_in(
-                store,
-                alloc,
-                self.limits,
-                kind,
-                label.as_slice(),
-                &mut source,
-            ),
-            Command::Remove(number) => remove_in(store, number),
-            Command::Group(name, change) => change_in(store, self.limits, name.as_slice(), change),
-            Command::Ask(query) => ask_in(store, alloc, self.most, query),
+            } => import_in(store, alloc, self.limits, kind, label, &mut source),
             Command::Annotate {
                 selection,
                 event,
                 file,
                 mut source,
-            } => annotate_in(store, alloc, self.most, selection, event, file, &mut source),
+            } => annotate_in(
+                store,
+                alloc,
+                self.most,
+                &selection,
+                event,
+                file,
+                &mut source,
+            ),
+            other => act_in(store, alloc, self.limits, self.most, &other),
         }
     }
 
@@ -124,11 +127,11 @@ impl<S: RunStore> Warehouse<S> {
     pub fn run<R: Source + Drop>(
         &mut self,
         alloc: Global,
-        commands: Vec<Command<R>>,
+        commands: Vec<Command<R, &[u8]>>,
     ) -> Result<Vec<Answer>, AllocError>
         ensures limits { self.new.limits ≡ self.old.limits }
         ensures answered { IsFaithful S.StoreState self.new.store
-            → IfOk result (λ answers. WasRun S.StoreState R.reads self.old.limits commands.items answers.items self.old.store self.new.store) }
+            → IfOk result (λ answers. WasRun S.StoreState R.reads self.old.limits commands.entry.items answers.items self.old.store self.new.store) }
         ensures err { OnErr result (self.new ≡ self.old) }
     {
         let count = commands.len();

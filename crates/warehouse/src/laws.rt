@@ -11,8 +11,7 @@ ghost use Rattle.histories.specs.declared.answers.Answer.{Answer};
 ghost use Rattle.histories.specs.declared.limits.Limits.{Limits};
 ghost use Rattle.store_histories.specs.Answered.{HasHistory, RepresentsHistory, Answers, Links, is_accepted};
 ghost use Rattle.store_histories.specs.Left.{LeavesHistory};
-ghost use Rattle.warehouse.specs.Answered.{AreCommandsOf};
-ghost use Rattle.warehouse.specs.declared.command.Command as commands;
+ghost use Rattle.warehouse.specs.Answered.{AreCommandsOf, Lent};
 
 use byte_io::Source;
 use histories::the_mark_stays;
@@ -43,8 +42,8 @@ pub fn crashes_leave_a_history<S: RunStore>()
 
 /// What this program imports it reads by the second grammar, so commands keep the mark of a history.
 pub fn commands_keep_the_mark<R: Source>()
-    ensures second { (list : List (commands.Command R)) (steps : History) → AreCommandsOf R.reads list steps → AreBy Second steps }
-    ensures marked { (h : History) (list : List (commands.Command R)) (steps : History) → IsMarked h → AreCommandsOf R.reads list steps → IsMarked (h ++ steps) }
+    ensures second { (list : List (Lent R)) (steps : History) → AreCommandsOf R.reads list steps → AreBy Second steps }
+    ensures marked { (h : History) (list : List (Lent R)) (steps : History) → IsMarked h → AreCommandsOf R.reads list steps → IsMarked (h ++ steps) }
 {
     the_mark_stays();
 }

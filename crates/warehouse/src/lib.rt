@@ -1,12 +1,10 @@
 //! The warehouse: commands over a store of runs, and their answers.
 #![tactic(auto)]
 
-// Files are imported, each with its answer.
+// Commands over a store, each with its answer.
 mod answering;
 // Commands, one by one and in lists.
 mod apply;
-// What a warehouse is told to do.
-mod command;
 // Laws: which histories a store has.
 mod laws;
 // The refusals of sources that were not read.
@@ -15,9 +13,8 @@ mod refusals;
 mod warehouse;
 
 pub use byte_io::{ReadFault, Source};
-pub use command::Command;
-pub use histories::{Answer, Excess, Limits, Query, Refusal, Selection};
+pub use histories::{Answer, Excess, Limits, Refusal};
 pub use laws::{commands_keep_the_mark, crashes_leave_a_history, histories_survive};
 pub use profile_records::Kind;
-pub use store_commands::GroupChange;
+pub use requests::{Command, Query, Selection};
 pub use warehouse::Warehouse;

@@ -2,6 +2,7 @@ use Rattle.std.proofs.Common.{◌≡◌, ◌⊎◌, ◌∙◌, ◌-◌, [], take
 use Rattle.std.proofs.Math.Seq.{take-length}
 use Rattle.histories.specs.declared.answers.Answer.{Answer}
 use Rattle.histories.specs.declared.limits.Limits.{Limits}
+use Rattle.histories.specs.Requests.{command_read}
 use Rattle.store_histories.specs.Answered.{Answers}
 use Rattle.http_exchange.specs.Bodies.{IsBodyOf}
 use Rattle.http_exchange.specs.Requests.{request_of}
@@ -29,7 +30,7 @@ returns-in-Ok-clause-replied g c head is =
             is_wanted = ap (λ (l : Limits). request_of l.bytes head) (sym c.limits-limit.ensures) ∙ c.in-Ok.ensures head is;
             outcomes = done.outcomes;
             body = subst (λ held. IsBodyOf c.in-Ok.request.length held done.handed.stream_reads done.outcomes) whole done.handed.made;
-            answers = λ clean. subst (λ command. Answers g.S.StoreState old.limits command it.0 old.store new) (c.task_of.ensures done.outcomes) (it.2 clean);
+            answers = λ clean. subst (λ asked. Answers g.S.StoreState old.limits (command_read asked done.outcomes) it.0 old.store new) c.lent.ensures (it.2 clean);
           }),
     )
 

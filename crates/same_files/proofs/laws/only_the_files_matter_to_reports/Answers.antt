@@ -1,6 +1,10 @@
-use Rattle.std.proofs.Common.{ℕ, List, ◌∷◌, Option, Some, refl, ap₂, sym, ◌∙◌}
+use Rattle.std.proofs.Common.{◌≡◌, ℕ, List, ◌∷◌, Option, Some, refl, ap₂, sym, ◌∙◌}
 use Rattle.report_texts.specs.Functions.{function_spot}
-use Rattle.histories.specs.Legal.{first_or}
+use Rattle.report_texts.specs.declared.call_sides.CallSide.{CallSide}
+use Rattle.report_texts.specs.declared.call_sides.CallSide.TheVariants as sides
+use Rattle.histories.specs.History.{Ask}
+use Rattle.histories.specs.Legal.{expected_answer, expected_of_calls, first_or}
+use Rattle.requests.specs.Plain.{calls_query}
 use Rattle.histories.specs.declared.answers.Answer.{Answer}
 use Rattle.histories.specs.declared.answers.Answer.TheVariants.{Text}
 use Rattle.same_files.proofs.Reports.{same_by, same_calls, same_difference, same_event, same_event_of_both, same_inclusive, same_name}
@@ -18,9 +22,16 @@ returns-clause-inclusive c h k s r event same limits =
     ap₂ answered (ap₂ ◌∷◌ (same.here ∙ sym same.there) (ap₂ ◌∷◌ (same_event event _ _ same.files) refl)) (same_inclusive event _ _ same.files)
 
 pub returns-clause-calls : goal.returns-clause-calls
-returns-clause-calls c h k s r side event object function same limits =
-    let f = function_spot object function in
-    ap₂ answered (ap₂ ◌∷◌ (same.here ∙ sym same.there) (ap₂ ◌∷◌ (same_event event _ _ same.files) (ap₂ ◌∷◌ (same_name f _ _ same.files) refl))) (same_calls side f event _ _ same.files)
+returns-clause-calls c h k s r side event object function same limits = of_either side
+  where
+    alike : (side : CallSide) → Some (expected_of_calls h s side event object function) ≡ Some (expected_of_calls k r side event object function)
+    alike side =
+        let f = function_spot object function in
+        ap₂ answered (ap₂ ◌∷◌ (same.here ∙ sym same.there) (ap₂ ◌∷◌ (same_event event _ _ same.files) (ap₂ ◌∷◌ (same_name f _ _ same.files) refl))) (same_calls side f event _ _ same.files)
+
+    of_either : (side : CallSide) → expected_answer limits h (Ask (calls_query side s event object function)) ≡ expected_answer limits k (Ask (calls_query side r event object function))
+    of_either sides.Callers = alike sides.Callers
+    of_either sides.Callees = alike sides.Callees
 
 pub returns-clause-subtract : goal.returns-clause-subtract
 returns-clause-subtract c h k s r t u key event same limits =

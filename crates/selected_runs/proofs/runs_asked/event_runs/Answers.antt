@@ -1,4 +1,5 @@
 use Rattle.std.proofs.Common.{◌≡◌, Ok, inl, sym, subst, rules}
+use Rattle.requests.specs.Plain.{plain_selection}
 use Rattle.run_stores.proofs.Calls.{asked_reads}
 use Rattle.selected_runs.specs.Counted.{AreCounted}
 use Rattle.selected_runs.specs.EventRuns.{AreEventRunsIn}
@@ -17,7 +18,7 @@ returns-then-not-have_event-clause-told g c clean t represents =
     let numbers : c.as_slice.result.now ≡ c.in-Ok.numbers = search rules in
     let runs : c.deref.result.now ≡ c.in_ok-runs.runs.items = search rules in
     let counted = subst (λ ns. AreCounted t event ns c.in_ok-runs.runs.items) numbers (c.in_ok-runs.ensures.told clean t mid) in
-    runs_lacking t c.args.selection.now event c.in-Ok.numbers c.in_ok-runs.runs.items found counted (search rules)
+    runs_lacking t (plain_selection c.args.selection.now) event c.in-Ok.numbers c.in_ok-runs.runs.items found counted (search rules)
 
 pub returns-clause-told : goal.returns-clause-told
 returns-clause-told g c clean t represents =
@@ -28,4 +29,4 @@ returns-clause-told g c clean t represents =
     let numbers : c.as_slice.result.now ≡ c.in-Ok.numbers = search rules in
     let counted = subst (λ ns. AreCounted t event ns c.in_ok-runs.runs.items) numbers (c.in_ok-runs.ensures.told clean t mid) in
     let same : c.from_vec.result ≡ c.in_ok-runs.runs.items = search rules in
-    subst (λ rs. AreEventRunsIn t c.args.selection.now event (Ok rs)) (sym same) (runs_found t c.args.selection.now event c.in-Ok.numbers c.in_ok-runs.runs.items found counted (search rules))
+    subst (λ rs. AreEventRunsIn t (plain_selection c.args.selection.now) event (Ok rs)) (sym same) (runs_found t (plain_selection c.args.selection.now) event c.in-Ok.numbers c.in_ok-runs.runs.items found counted (search rules))

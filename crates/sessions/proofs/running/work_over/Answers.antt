@@ -10,7 +10,7 @@ use Rattle.sessions.proofs.running.work_over.Goals as goal
 pub returns : goal.returns
 returns g c clean =
     let contents = g.W.Write.contents in
-    let wanted = Wants g.R.File.Read.remaining c.args.work in
+    let wanted = Wants g.R.File.Read.remaining c.args.commands.now in
     let old = c.new-session.result in
     let new = c.run-ended.new.self in
     let before = ap (λ (w : Warehouse _ _). w.store) c.new-session.ensures.warehouse ∙ c.new-warehouse.ensures.store in

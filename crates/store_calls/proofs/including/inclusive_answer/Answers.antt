@@ -1,5 +1,5 @@
-use Rattle.std.proofs.Common.{◌≡◌, Ok, Err, refl, subst, subst₂, rules}
-use Rattle.selected_runs.specs.EventRuns.{AreEventRunsIn}
+use Rattle.std.proofs.Common.{◌≡◌, Ok, Err, refl, subst, rules}
+use Rattle.requests.specs.Plain.{plain_selection}
 use Rattle.store_calls.specs.InclusiveRuns.{IsInclusiveText}
 use Rattle.store_histories.proofs.Questions.{asked_once}
 use Rattle.selected_runs.proofs.AskLemmas.{asked_twice}
@@ -8,22 +8,20 @@ use Rattle.store_calls.proofs.including.inclusive_answer.Goals as goal
 
 pub returns-in-Err : goal.returns-in-Err
 returns-in-Err g c clean =
-    let selection = c.args.selection.now in
-    let event : c.as_slice-event.result.now ≡ c.args.event.now = search rules in
+    let selection = plain_selection c.args.selection.now in
     asked_once g.S.StoreState _ _ (inclusive_is_expected selection c.args.event.now) _ _ _ refl (c.in_ok-runs.ensures.asks clean) (λ t represents. record {
       found = Err c.in-Err.refusal;
-      is_found = subst (λ e. AreEventRunsIn t selection e (Err c.in-Err.refusal)) event (rw c.in-Err.is at (c.in_ok-runs.ensures.told clean t represents));
+      is_found = rw c.in-Err.is at (c.in_ok-runs.ensures.told clean t represents);
       answer_is = refl;
     })
 
 pub returns : goal.returns
 returns g c clean =
-    let selection = c.args.selection.now in
+    let selection = plain_selection c.args.selection.now in
     let text = c.in_ok-text.text in
-    let event : c.as_slice-event.result.now ≡ c.args.event.now = search rules in
     let runs : c.as_slice.result.now ≡ c.in-Ok.runs = search rules in
     asked_twice g.S.StoreState _ _ (inclusive_is_expected selection c.args.event.now) _ _ _ _ refl c.in_ok-runs.ensures.asks (c.in_ok-text.ensures.asks clean) (λ t represents early mid. record {
       found = Ok c.in-Ok.runs;
-      is_found = subst (λ e. AreEventRunsIn t selection e (Ok c.in-Ok.runs)) event (rw c.in-Ok.is at (c.in_ok-runs.ensures.told early t represents));
-      answer_is = (text, subst₂ (λ rs e. IsInclusiveText t rs e text) runs event (c.in_ok-text.ensures.told clean t mid), refl);
+      is_found = rw c.in-Ok.is at (c.in_ok-runs.ensures.told early t represents);
+      answer_is = (text, subst (λ rs. IsInclusiveText t rs c.args.event.now text) runs (c.in_ok-text.ensures.told clean t mid), refl);
     })

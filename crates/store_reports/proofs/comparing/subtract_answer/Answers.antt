@@ -1,4 +1,5 @@
-use Rattle.std.proofs.Common.{◌≡◌, true, Ok, Err, refl, subst, subst₂, rules}
+use Rattle.std.proofs.Common.{◌≡◌, true, Ok, Err, option_map, refl, subst₂, rules}
+use Rattle.requests.specs.Plain.{plain_selection}
 use Rattle.run_stores.proofs.Calls.{asked_of_open, asked_reads}
 use Rattle.store_reports.specs.Compared.{AnswersDifference}
 use Rattle.store_histories.proofs.Questions.{asked_once, if_ok_so}
@@ -8,7 +9,7 @@ use Rattle.store_reports.proofs.comparing.subtract_answer.Goals as goal
 
 pub returns-in-Err : goal.returns-in-Err
 returns-in-Err g c clean =
-    asked_once g.S.StoreState _ _ (subtracted_is_expected c.args.first.now c.args.second.now c.args.key c.args.event.now) _ _ _ refl (c.in_ok-numbers.ensures.asks clean) (λ t represents. record {
+    asked_once g.S.StoreState _ _ (subtracted_is_expected (plain_selection c.args.first.now) (option_map plain_selection c.args.second.now) c.args.key c.args.event.now) _ _ _ refl (c.in_ok-numbers.ensures.asks clean) (λ t represents. record {
       found = Err c.in-Err.refusal;
       is_found = rw c.in-Err.is at (c.in_ok-numbers.ensures.told clean t represents);
       answer_is = refl;
@@ -16,7 +17,7 @@ returns-in-Err g c clean =
 
 pub returns-in-Err-2 : goal.returns-in-Err-2
 returns-in-Err-2 g c clean =
-    asked_twice g.S.StoreState _ _ (subtracted_is_expected c.args.first.now c.args.second.now c.args.key c.args.event.now) _ _ _ _ refl c.in_ok-numbers.ensures.asks (c.in_ok-numbers-2.ensures.asks clean) (λ t represents early mid.
+    asked_twice g.S.StoreState _ _ (subtracted_is_expected (plain_selection c.args.first.now) (option_map plain_selection c.args.second.now) c.args.key c.args.event.now) _ _ _ _ refl c.in_ok-numbers.ensures.asks (c.in_ok-numbers-2.ensures.asks clean) (λ t represents early mid.
     record {
       found = Ok c.in-Ok.numbers;
       is_found = rw c.in-Ok.is at (c.in_ok-numbers.ensures.told early t represents);
@@ -33,8 +34,7 @@ returns g c clean =
     let seconds = c.in_ok-numbers-2.ensures in
     let numbers : c.as_slice.result.now ≡ c.in-Ok.numbers = search rules in
     let others : c.as_slice-2.result.now ≡ c.in-Ok-2.numbers = search rules in
-    let event : c.as_slice-3.result.now ≡ c.args.event.now = search rules in
-    asked_twice g.S.StoreState _ _ (subtracted_is_expected c.args.first.now c.args.second.now c.args.key c.args.event.now) c.answer_difference.result _ _ _ c.answer_difference.ensures.still
+    asked_twice g.S.StoreState _ _ (subtracted_is_expected (plain_selection c.args.first.now) (option_map plain_selection c.args.second.now) c.args.key c.args.event.now) c.answer_difference.result _ _ _ c.answer_difference.ensures.still
     (λ later. let compared = seconds.asks later in asked_of_open g.S.StoreState true _ _ _ (firsts.asks compared.stays.was_faithful) compared) (c.answer_difference.ensures.asks clean) (λ t represents later two.
     let early = (seconds.asks later).stays.was_faithful in
     let one = asked_reads g.S.StoreState t _ _ (firsts.asks early) represents in
@@ -44,7 +44,6 @@ returns g c clean =
       answer_is = record {
         found = Ok c.in-Ok-2.numbers;
         is_found = rw c.in-Ok-2.is at (seconds.told later t one);
-        answer_is = subst (λ e. AnswersDifference t c.in-Ok.numbers c.in-Ok-2.numbers c.args.key e answer) event
-            (subst₂ (λ ns os. AnswersDifference t ns os c.args.key c.as_slice-3.result.now answer) numbers others told);
+        answer_is = subst₂ (λ ns os. AnswersDifference t ns os c.args.key c.args.event.now answer) numbers others told;
       };
     }) (c.answer_difference.ensures.told clean t two))

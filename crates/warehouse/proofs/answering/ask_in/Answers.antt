@@ -1,4 +1,5 @@
 use Rattle.std.proofs.Common.{sym, subst}
+use Rattle.requests.specs.Plain.{plain_query}
 use Rattle.histories.specs.History.{Ask}
 use Rattle.store_histories.specs.Answered.{Answers}
 use Rattle.store_histories.specs.FromTables.{OrFailed}
@@ -10,7 +11,7 @@ use Rattle.warehouse.proofs.answering.ask_in.Goals as goal
 
 pub returns : goal.returns
 returns g c =
-    let query = c.args.query in
+    let query = plain_query c.args.query.now in
     let kept = c.keep_short.result in
     let asked = kept_asked g.S.StoreState (AnswersIn query) query c.args.store.now c.answer-answered.new.store c.answer-answered.result kept c.keep_short.ensures.kept c.answer-answered.ensures in
     record {

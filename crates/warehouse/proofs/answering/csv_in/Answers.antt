@@ -1,7 +1,8 @@
 use Rattle.std.proofs.Common.{ℕ, List, Result, Ok, Err, subst, ◌∙◌}
 use Rattle.report_texts.specs.Csv.{EventSpot}
 use Rattle.histories.specs.declared.answers.Answer.TheVariants.{Refused}
-use Rattle.histories.specs.declared.answers.Query.TheVariants.{Csv}
+use Rattle.requests.specs.Plain.{plain_selection}
+use Rattle.requests.specs.declared.queries.Query.TheVariants.{Csv}
 use Rattle.histories.specs.declared.answers.Refusal.{Refusal}
 use Rattle.store_histories.specs.Answered.{AnswersAsked}
 use Rattle.store_exports.specs.CsvRuns.{csv_given}
@@ -11,7 +12,7 @@ use Rattle.warehouse.proofs.answering.csv_in.Goals as goal
 
 pub returns-in-Ok-Ok-clause-answered : goal.returns-in-Ok-Ok-clause-answered
 returns-in-Ok-Ok-clause-answered g c =
-    let query = Csv c.args.selection.now in
+    let query = Csv (plain_selection c.args.selection.now) in
     let old = c.args.store.now in
     let new = c.csv_sums.new.store in
     sums_answered g.S.StoreState (AnswersIn query) query old new c.in-Ok-Ok.sums
@@ -19,7 +20,7 @@ returns-in-Ok-Ok-clause-answered g c =
 
 pub returns-in-Ok-Err-clause-answered : goal.returns-in-Ok-Err-clause-answered
 returns-in-Ok-Err-clause-answered g c =
-    let query = Csv c.args.selection.now in
+    let query = Csv (plain_selection c.args.selection.now) in
     let old = c.args.store.now in
     let new = c.csv_sums.new.store in
     one_answered g.S.StoreState (AnswersIn query) query old new (Ok (Refused c.in-Ok-Err.refusal))
@@ -27,5 +28,5 @@ returns-in-Ok-Err-clause-answered g c =
 
 pub returns-in-Err-clause-answered : goal.returns-in-Err-clause-answered
 returns-in-Err-clause-answered g c answer is =
-    let query = Csv c.args.selection.now in
+    let query = Csv (plain_selection c.args.selection.now) in
     one_answered g.S.StoreState (AnswersIn query) query c.args.store.now c.csv_sums.new.store (Err c.in-Err.failure) c.in-Err.ensures answer (is ∙ c.answer_of.ensures)

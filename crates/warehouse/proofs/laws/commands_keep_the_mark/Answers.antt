@@ -1,41 +1,45 @@
-use Rattle.std.proofs.Common.{List, [], ◌∷◌, refl, sym, subst}
-use Rattle.std.specs.List.{AllByRecursion}
+use Rattle.std.proofs.Common.{◌≡◌, ℕ, List, [], ◌∷◌, refl, sym, subst}
 use Rattle.callgrind_reader.specs.Grammars.{Second}
-use Rattle.profile_records.specs.declared.kinds.Kind.{Kind}
 use Rattle.profile_records.specs.declared.kinds.Kind.TheVariants as kinds
 use Rattle.byte_io.specs.Outcomes.{Outcome}
-use Rattle.histories.specs.Formats.{today}
-use Rattle.histories.specs.History.{Command, Import, History}
+use Rattle.histories.specs.History.{Command, History}
 use Rattle.histories.specs.Marks.{AreBy, IsBy}
+use Rattle.histories.specs.Requests.{command_read}
 use Rattle.histories.proofs.Marks.{marked_on}
-use Rattle.store_commands.specs.Changes.{command_from_change}
-use Rattle.store_commands.specs.declared.changes.GroupChange.{GroupChange}
-use Rattle.store_commands.specs.declared.changes.GroupChange.TheVariants as change
-use Rattle.warehouse.specs.Answered.{AreCommandsOf, Says}
-use Rattle.warehouse.specs.declared.command.Command as commands
-use Rattle.warehouse.specs.declared.command.Command.TheVariants as input
+use Rattle.requests.specs.Plain.{plain_command}
+use Rattle.requests.specs.declared.commands.Command as commands
+use Rattle.requests.specs.declared.commands.Command.TheVariants as input
+use Rattle.warehouse.specs.Answered.{AreCommandsOf, Lent, Says}
 use Rattle.warehouse.proofs.laws.commands_keep_the_mark.Goals as goal
 
-import_is : (kind : Kind) (label : List _) (outcomes : List Outcome) → IsBy Second (Import (today kind) label outcomes)
-import_is kinds.Callgrind label outcomes = refl
-import_is kinds.Folded label outcomes = tt
-
-change_is : (c : GroupChange) (name : List _) → IsBy Second (command_from_change c name)
-change_is change.Make name = tt
-change_is change.Drop name = tt
-change_is (change.Join n) name = tt
-change_is (change.Leave n) name = tt
-change_is (change.SetBaseline n) name = tt
+read_is : {R : Type 0} (one : commands.Command R (List ℕ)) (outcomes : List Outcome) → IsBy Second (command_read one outcomes)
+read_is (input.Import kinds.Callgrind label source) outcomes = refl
+read_is (input.Import kinds.Folded label source) outcomes = tt
+read_is (input.Remove n) outcomes = tt
+read_is (input.MakeGroup name) outcomes = tt
+read_is (input.DropGroup name) outcomes = tt
+read_is (input.Join name n) outcomes = tt
+read_is (input.Leave name n) outcomes = tt
+read_is (input.SetBaseline name n) outcomes = tt
+read_is (input.Ask query) outcomes = tt
+read_is (input.Annotate selection event file source) outcomes = tt
 
 module _ {R : Type 0} (reads : R → Outcome → R → Type 0) where
-  one_is : (one : commands.Command R) (command : Command) → Says reads one command → IsBy Second command
-  one_is (input.Import kind label source) command is = subst (IsBy Second) (sym is.3) (import_is kind label.items is.0)
-  one_is (input.Remove n) command is = subst (IsBy Second) (sym is) tt
-  one_is (input.Group name c) command is = subst (IsBy Second) (sym is) (change_is c name.items)
-  one_is (input.Ask query) command is = subst (IsBy Second) (sym is) tt
-  one_is (input.Annotate selection event file source) command is = subst (IsBy Second) (sym is.3) tt
+  read_of : (one : Lent R) (outcomes : List Outcome) (command : Command) → command ≡ command_read (plain_command one) outcomes → IsBy Second command
+  read_of one outcomes command is = subst (IsBy Second) (sym is) (read_is (plain_command one) outcomes)
 
-  all_are : (list : List (commands.Command R)) (steps : History) → AreCommandsOf reads list steps → AreBy Second steps
+  one_is : (one : Lent R) (command : Command) → Says reads one command → IsBy Second command
+  one_is (input.Import kind label source) command is = read_of (input.Import kind label source) is.0 command is.3
+  one_is (input.Annotate selection event file source) command is = read_of (input.Annotate selection event file source) is.0 command is.3
+  one_is (input.Remove n) command is = read_of (input.Remove n) [] command is
+  one_is (input.MakeGroup name) command is = read_of (input.MakeGroup name) [] command is
+  one_is (input.DropGroup name) command is = read_of (input.DropGroup name) [] command is
+  one_is (input.Join name n) command is = read_of (input.Join name n) [] command is
+  one_is (input.Leave name n) command is = read_of (input.Leave name n) [] command is
+  one_is (input.SetBaseline name n) command is = read_of (input.SetBaseline name n) [] command is
+  one_is (input.Ask query) command is = read_of (input.Ask query) [] command is
+
+  all_are : (list : List (Lent R)) (steps : History) → AreCommandsOf reads list steps → AreBy Second steps
   all_are [] [] command = tt
   all_are [] (step ∷ steps) command = absurd command
   all_are (one ∷ list) [] command = absurd command

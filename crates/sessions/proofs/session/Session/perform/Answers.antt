@@ -1,0 +1,32 @@
+use Rattle.std.proofs.Common.{[], sym, subst}
+use Rattle.run_stores.specs.Calls.{IsFaithful}
+use Rattle.histories.specs.Requests.{command_read}
+use Rattle.requests.specs.Plain.{plain_request}
+use Rattle.histories.proofs.RequestLemmas.{read_alike}
+use Rattle.sessions.specs.Sessions.{WasPerformed, WasTold}
+use Rattle.sessions.proofs.SessionLemmas.{none_read, told, were_read}
+use Rattle.byte_io.specs.Imported.{WereRead}
+use Rattle.store_histories.specs.Answered.{Answers}
+use Rattle.sessions.proofs.session.Session.perform.Goals as goal
+
+pub returns-in-Ask-Csv-clause-answered : goal.returns-in-Ask-Csv-clause-answered
+returns-in-Ask-Csv-clause-answered g c clean =
+    subst (λ one. WasPerformed g.S.StoreState g.W.Write.contents (WereRead g.R.File.Read.remaining) (plain_request one) c.ask_csv.result c.args.self.now c.ask_csv.new.self) (sym c.in-Ask-Csv.is)
+    ([], none_read g.R.File.Read.remaining, c.ask_csv.ensures.answered clean)
+
+pub returns-clause-answered : goal.returns-clause-answered
+returns-clause-answered g c clean =
+    let old = c.args.self.now in
+    let new = c.tell.new.self in
+    let same = c.tell.ensures.warehouse in
+    let early = subst (λ w. IsFaithful g.S.StoreState w.store) same clean in
+    let it = c.perform-answer.ensures.answered in
+    let outcomes = it.outcomes in
+    let command = command_read (plain_request c.args.command.now) outcomes in (
+      outcomes,
+      were_read g.R.File.Read.remaining _ _ outcomes c.new-source.ensures it.came,
+      told g.S.StoreState g.W.Write.contents command c.perform-answer.result c.tell.result old new
+          (subst (λ w. Answers g.S.StoreState old.warehouse.limits command c.perform-answer.result old.warehouse.store w.store) (sym same)
+          (subst (λ k. Answers g.S.StoreState old.warehouse.limits k c.perform-answer.result old.warehouse.store c.perform-answer.new.self.store) (read_alike c.args.command.now outcomes) (it.answers early)))
+          c.tell.ensures.status c.tell.ensures.printed,
+    )

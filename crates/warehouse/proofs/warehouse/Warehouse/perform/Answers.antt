@@ -1,0 +1,34 @@
+use Rattle.std.proofs.Common.{[], refl, sym, subst}
+use Rattle.histories.specs.Requests.{command_read}
+use Rattle.requests.specs.Plain.{plain_command}
+use Rattle.warehouse.specs.Answered.{IsShortFor, ReadsNone, WasAnsweredOver}
+use Rattle.warehouse.specs.FromTables.{IsFoundOver}
+use Rattle.warehouse.proofs.warehouse.Warehouse.perform.Goals as goal
+
+pub returns-in-Import-clause-answered : goal.returns-in-Import-clause-answered
+returns-in-Import-clause-answered g c =
+    subst (λ k. WasAnsweredOver g.S.StoreState g.R.Source.reads c.args.self.now.limits (command_read (plain_command k)) c.args.source.now c.import_in.new.source c.import_in.result c.args.self.now.store c.import_in.new.store) (sym c.in-Import.is) (c.import_in.ensures.answered)
+
+pub returns-in-Import-clause-found : goal.returns-in-Import-clause-found
+returns-in-Import-clause-found g c =
+    subst (λ k. IsFoundOver g.S.StoreState g.R.Source.reads c.args.self.now.limits (plain_command k) c.args.source.now c.import_in.new.source c.import_in.result c.args.self.now.store c.import_in.new.store) (sym c.in-Import.is) c.import_in.ensures.found
+
+pub returns-in-Import-clause-short : goal.returns-in-Import-clause-short
+returns-in-Import-clause-short g c = subst (λ k. IsShortFor c.args.self.now.most k c.import_in.result) (sym c.in-Import.is) tt
+
+pub returns-in-Annotate-clause-answered : goal.returns-in-Annotate-clause-answered
+returns-in-Annotate-clause-answered g c =
+    subst (λ k. WasAnsweredOver g.S.StoreState g.R.Source.reads c.args.self.now.limits (command_read (plain_command k)) c.args.source.now c.annotate_in.new.source c.annotate_in.result c.args.self.now.store c.annotate_in.new.store) (sym c.in-Annotate.is) (c.annotate_in.ensures.answered c.args.self.now.limits)
+
+pub returns-in-Annotate-clause-found : goal.returns-in-Annotate-clause-found
+returns-in-Annotate-clause-found g c =
+    subst (λ k. IsFoundOver g.S.StoreState g.R.Source.reads c.args.self.now.limits (plain_command k) c.args.source.now c.annotate_in.new.source c.annotate_in.result c.args.self.now.store c.annotate_in.new.store) (sym c.in-Annotate.is) c.annotate_in.ensures.found
+
+pub returns-in-Annotate-clause-short : goal.returns-in-Annotate-clause-short
+returns-in-Annotate-clause-short g c = subst (λ k. IsShortFor c.args.self.now.most k c.annotate_in.result) (sym c.in-Annotate.is) c.annotate_in.ensures.short
+
+pub returns-in-Import-clause-unread : goal.returns-in-Import-clause-unread
+returns-in-Import-clause-unread g c none = absurd (subst ReadsNone c.in-Import.is none)
+
+pub returns-in-Annotate-clause-unread : goal.returns-in-Annotate-clause-unread
+returns-in-Annotate-clause-unread g c none = absurd (subst ReadsNone c.in-Annotate.is none)
