@@ -50,7 +50,8 @@ fn removals<'a>(alloc: Global, numbers: &[u32]) -> Result<ListVec<WordsCommand<'
 {
     let mut commands = ListVec::new(alloc);
     for number in numbers {
-        commands.push(Command::Remove(*number))?;
+        let removal: WordsCommand<'a> = Command::Remove(*number);
+        commands.push(removal)?;
     }
     Ok(commands)
 }

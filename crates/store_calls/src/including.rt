@@ -18,6 +18,7 @@ use crate::inclusive_sums::InclusiveRows;
 use cost_reports::{InclusiveSums, inclusive};
 use histories::Answer;
 use profile_records::Kind;
+use requests::Selection;
 use run_stores::{NameTable, RunStore, StoreError};
 use selected_runs::{Counted, RunFold, event_runs, fold_runs};
 use shared_texts::SharedText;

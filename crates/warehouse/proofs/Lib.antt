@@ -1,3 +1,4 @@
 mod GivenLemmas
+mod NoneLemmas
 mod Runs
 mod Unread

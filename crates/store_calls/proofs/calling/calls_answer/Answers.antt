@@ -20,7 +20,7 @@ pub returns-in-Some : goal.returns-in-Some
 returns-in-Some g c clean =
     let selection = plain_selection c.args.selection.now in
     let side = c.args.side in
-    let runs : c.as_slice.result.now ≡ c.in-Ok.runs = search rules in
+    let runs : c.as_slice-runs.result.now ≡ c.in-Ok.runs = search rules in
     asked_twice g.S.StoreState _ _ (calls_are_expected selection side c.args.event.now c.args.object.now c.args.function.now) _ _ _ _ refl c.in_ok-runs.ensures.asks (c.in_ok-text.ensures.asks clean) (λ t represents early mid.
     let told = rw c.in-Some.is at (c.in_ok-text.ensures.told clean t mid) in
     record {
@@ -37,7 +37,7 @@ pub returns : goal.returns
 returns g c clean =
     let selection = plain_selection c.args.selection.now in
     let side = c.args.side in
-    let runs : c.as_slice.result.now ≡ c.in-Ok.runs = search rules in
+    let runs : c.as_slice-runs.result.now ≡ c.in-Ok.runs = search rules in
     asked_twice g.S.StoreState _ _ (calls_are_expected selection side c.args.event.now c.args.object.now c.args.function.now) _ _ _ _ refl c.in_ok-runs.ensures.asks (c.in_ok-text.ensures.asks clean) (λ t represents early mid.
     let told = rw c.in-None.is at (c.in_ok-text.ensures.told clean t mid) in
     record {

@@ -19,7 +19,7 @@ returns-in-Err g c clean =
 pub returns-in-Some : goal.returns-in-Some
 returns-in-Some g c clean =
     let selection = plain_selection c.args.selection.now in
-    let runs : c.as_slice.result.now ≡ c.in-Ok.runs = search rules in
+    let runs : c.as_slice-runs.result.now ≡ c.in-Ok.runs = search rules in
     asked_twice g.S.StoreState _ _ (annotation_is_expected selection c.args.event.now c.args.name.now c.args.source.now) _ _ _ _ refl c.in_ok-runs.ensures.asks (c.in_ok-text.ensures.asks clean) (λ t represents early mid.
     let told = rw c.in-Some.is at (c.in_ok-text.ensures.told clean t mid) in
     record {
@@ -31,7 +31,7 @@ returns-in-Some g c clean =
 pub returns : goal.returns
 returns g c clean =
     let selection = plain_selection c.args.selection.now in
-    let runs : c.as_slice.result.now ≡ c.in-Ok.runs = search rules in
+    let runs : c.as_slice-runs.result.now ≡ c.in-Ok.runs = search rules in
     asked_twice g.S.StoreState _ _ (annotation_is_expected selection c.args.event.now c.args.name.now c.args.source.now) _ _ _ _ refl c.in_ok-runs.ensures.asks (c.in_ok-text.ensures.asks clean) (λ t represents early mid.
     let told = rw c.in-None.is at (c.in_ok-text.ensures.told clean t mid) in
     record {

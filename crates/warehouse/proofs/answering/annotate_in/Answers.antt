@@ -26,7 +26,7 @@ returns-in-Ok g c = record {
       let kept = c.keep_short.result in
       let command = Annotate s event file read.outcomes in
       let query = queries.Annotate s event file bytes in
-      let text : c.deref.result.now ≡ bytes = c.deref.ensures ∙ read.read.1 in
+      let text : c.deref.result.now ≡ bytes = c.deref.ensures.value ∙ read.read.1 in
       record {
         outcomes = read.outcomes;
         came = read.came;
@@ -42,7 +42,7 @@ returns-in-Ok g c = record {
       let s = plain_selection c.args.selection.now in
       let event = c.args.event.now in
       let file = c.args.file.now in
-      let text : c.deref.result.now ≡ bytes_of read.outcomes = c.deref.ensures ∙ read.read.1 in
+      let text : c.deref.result.now ≡ bytes_of read.outcomes = c.deref.ensures.value ∙ read.read.1 in
       record {
         outcomes = read.outcomes;
         came = read.came;
@@ -56,8 +56,8 @@ returns-in-Ok g c = record {
   short = subst (IsShort c.args.most) (sym c.answer_of.ensures) (short_for c.args.most c.keep_short.result c.keep_short.ensures.short);
 }
 
-pub returns : goal.returns
-returns g c = record {
+pub returns-in-Err : goal.returns-in-Err
+returns-in-Err g c = record {
   answered = λ limits.
       let read = c.in-Err.ensures in
       let s = plain_selection c.args.selection.now in

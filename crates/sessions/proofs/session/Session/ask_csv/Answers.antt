@@ -18,8 +18,8 @@ returns-in-Ok-clause-answered g c clean =
     let is = c.in-Ok.ensures.answered it.0 it.1 early in
     told g.S.StoreState g.W.Write.contents command it.0 c.write_sums.result old new (subst (λ w. Answers g.S.StoreState old.warehouse.limits command it.0 old.warehouse.store w.store) (sym same) is) it.2 it.3
 
-pub returns-clause-answered : goal.returns-clause-answered
-returns-clause-answered g c clean =
+pub returns-in-Err-clause-answered : goal.returns-in-Err-clause-answered
+returns-in-Err-clause-answered g c clean =
     let old = c.args.self.now in
     let new = c.tell.new.self in
     let same = c.tell.ensures.warehouse in

@@ -1,7 +1,9 @@
-use Rattle.std.proofs.Common.{[], sym, subst}
+use Rattle.std.proofs.Common.{◌≡◌, [], sym, subst}
 use Rattle.run_stores.specs.Calls.{IsFaithful}
 use Rattle.histories.specs.Requests.{command_read}
-use Rattle.requests.specs.Plain.{plain_request}
+use Rattle.histories.specs.History.{Ask}
+use Rattle.requests.specs.Plain.{plain_query, plain_request}
+use Rattle.requests.specs.declared.queries.Query.TheVariants.{Csv}
 use Rattle.histories.proofs.RequestLemmas.{read_alike}
 use Rattle.sessions.specs.Sessions.{WasPerformed, WasTold}
 use Rattle.sessions.proofs.SessionLemmas.{none_read, told, were_read}
@@ -11,8 +13,13 @@ use Rattle.sessions.proofs.session.Session.perform.Goals as goal
 
 pub returns-in-Ask-Csv-clause-answered : goal.returns-in-Ask-Csv-clause-answered
 returns-in-Ask-Csv-clause-answered g c clean =
+    let csv : c.in-Ask-Csv.field-0 ≡ Csv c.in-Ask-Csv.selection = rw c.in-Ask-Csv.is at c.in-Ask-Csv.field-0-is in
     subst (λ one. WasPerformed g.S.StoreState g.W.Write.contents (WereRead g.R.File.Read.remaining) (plain_request one) c.ask_csv.result c.args.self.now c.ask_csv.new.self) (sym c.in-Ask-Csv.is)
-    ([], none_read g.R.File.Read.remaining, c.ask_csv.ensures.answered clean)
+    (
+      [],
+      none_read g.R.File.Read.remaining,
+      subst (λ query. WasTold g.S.StoreState g.W.Write.contents (Ask (plain_query query)) c.ask_csv.result c.args.self.now c.ask_csv.new.self) (sym csv) (c.ask_csv.ensures.answered clean),
+    )
 
 pub returns-clause-answered : goal.returns-clause-answered
 returns-clause-answered g c clean =

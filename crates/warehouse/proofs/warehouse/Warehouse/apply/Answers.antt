@@ -1,10 +1,11 @@
-use Rattle.std.proofs.Common.{[], refl, sym, subst}
+use Rattle.std.proofs.Common.{[], refl, rules, sym, subst}
 use Rattle.histories.specs.Requests.{command_read}
 use Rattle.run_stores.specs.Calls.{IsFaithful}
 use Rattle.store_histories.specs.Answered.{Answers}
 use Rattle.requests.specs.Plain.{plain_command}
-use Rattle.warehouse.specs.Answered.{IsShortFor, Says}
+use Rattle.warehouse.specs.Answered.{IsShortFor, ReadsNone, Says}
 use Rattle.warehouse.specs.FromTables.{IsFoundIn}
+use Rattle.warehouse.proofs.NoneLemmas.{found_in, says_none}
 use Rattle.warehouse.proofs.warehouse.Warehouse.apply.Goals as goal
 
 pub returns-in-Import-clause-answered : goal.returns-in-Import-clause-answered
@@ -36,3 +37,18 @@ returns-in-Annotate-clause-found g c =
 
 pub returns-in-Annotate-clause-short : goal.returns-in-Annotate-clause-short
 returns-in-Annotate-clause-short g c = subst (λ k. IsShortFor c.args.self.now.most k c.annotate_in.result) (sym c.in-Annotate.is) c.annotate_in.ensures.short
+
+pub returns-in_default : goal.returns-in_default
+returns-in_default g c =
+    let command = c.args.command in
+    let none : ReadsNone command = search rules in
+    record {
+      limits = refl;
+      short = c.act_in.ensures.short;
+      answered = record {
+        command = command_read (plain_command command) [];
+        says = says_none g.R.Source.reads command none;
+        answers = c.act_in.ensures.answered;
+      };
+      found = found_in g.S.StoreState g.R.Source.reads c.args.self.now.limits command c.act_in.result c.args.self.now.store c.act_in.new.store none c.act_in.ensures.found;
+    }

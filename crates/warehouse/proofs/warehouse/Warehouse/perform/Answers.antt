@@ -1,8 +1,9 @@
-use Rattle.std.proofs.Common.{[], refl, sym, subst}
+use Rattle.std.proofs.Common.{[], refl, rules, sym, subst}
 use Rattle.histories.specs.Requests.{command_read}
 use Rattle.requests.specs.Plain.{plain_command}
 use Rattle.warehouse.specs.Answered.{IsShortFor, ReadsNone, WasAnsweredOver}
 use Rattle.warehouse.specs.FromTables.{IsFoundOver}
+use Rattle.warehouse.proofs.NoneLemmas.{found_over}
 use Rattle.warehouse.proofs.warehouse.Warehouse.perform.Goals as goal
 
 pub returns-in-Import-clause-answered : goal.returns-in-Import-clause-answered
@@ -32,3 +33,15 @@ returns-in-Import-clause-unread g c none = absurd (subst ReadsNone c.in-Import.i
 
 pub returns-in-Annotate-clause-unread : goal.returns-in-Annotate-clause-unread
 returns-in-Annotate-clause-unread g c none = absurd (subst ReadsNone c.in-Annotate.is none)
+
+pub returns-in_default : goal.returns-in_default
+returns-in_default g c =
+    let command = c.args.command.now in
+    let none : ReadsNone command = search rules in
+    record {
+      limits = refl;
+      short = c.act_in.ensures.short;
+      unread = λ _. refl;
+      answered = record { outcomes = []; came = refl; answers = c.act_in.ensures.answered };
+      found = found_over g.S.StoreState g.R.Source.reads c.args.self.now.limits command c.args.source.now c.args.source.now c.act_in.result c.args.self.now.store c.act_in.new.store none c.act_in.ensures.found;
+    }
