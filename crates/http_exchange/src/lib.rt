@@ -40,11 +40,11 @@ mod texts;
 
 pub use asked::Asked;
 pub use bodies::{Body, body_comes};
+pub use checks::{Request, SOURCE_LIMIT, read_request};
 pub use failings::Failing;
 pub use heads::{FIELD_LIMIT, HEAD_LIMIT, Head, find_head};
 pub use places::{Method, Place};
 pub use receiving::{HeadEnd, read_head};
-pub use checks::{Request, SOURCE_LIMIT, read_request};
 pub use responses::{RESPONSE_HEAD_ROOM, put_head};
 pub use routing::routes;
 pub use sending::{RESPONSE_ROOM, send, write_all};

@@ -37,11 +37,7 @@ enum Job<'c, 'a> {
 
 /// Does a job over a store in its pages, and copies what was committed from the log into the file; where that fails, it
 /// stands in the log, and the next opening finds it there.
-fn change_pages<'a>(
-    rt: &'a HostRuntime,
-    store: StoreInPages,
-    job: Job<'_, 'a>,
-) -> io::Result<u8> {
+fn change_pages<'a>(rt: &'a HostRuntime, store: StoreInPages, job: Job<'_, 'a>) -> io::Result<u8> {
     let (came_to, mut store) = match job {
         Job::Run(commands) => {
             let (printed, _out, store) = work_in_pages(rt, io::writer(rt), store, commands);

@@ -60,10 +60,7 @@ fn make_group(
 }
 
 /// Whether run 1 is removed, a group is made, and a second one finds no room.
-fn removes_and_makes_one_group(
-    house: &mut Warehouse<SqlRuns<MemStore>>,
-    alloc: Global,
-) -> bool {
+fn removes_and_makes_one_group(house: &mut Warehouse<SqlRuns<MemStore>>, alloc: Global) -> bool {
     let removed = word(&house.apply::<Given>(alloc, Command::Remove(1)));
     let first = make_group(house, alloc, b"g");
     let second = make_group(house, alloc, b"h");

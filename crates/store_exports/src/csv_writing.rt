@@ -15,8 +15,8 @@ ghost use Rattle.store_exports.specs.CsvRuns.{AddsRun, AreSums, IsCsv, csv_asked
 use crate::sinks::NamedRows;
 use cost_exports::{CellSums, csv_text};
 use histories::{Answer, Refusal};
-use requests::Selection;
 use named_rows::each_named_cell;
+use requests::Selection;
 use run_stores::{RunStore, StoreError};
 use selected_runs::{RunFold, fold_runs, select_runs};
 use shared_texts::SharedText;

@@ -99,7 +99,14 @@ fn answer<S: RunStore>(
             object,
             function,
         } => calls_answer(
-            store, alloc, selection, CallSide::Callers, event, object, function, most,
+            store,
+            alloc,
+            selection,
+            CallSide::Callers,
+            event,
+            object,
+            function,
+            most,
         ),
         Query::Callees {
             selection,
@@ -107,7 +114,14 @@ fn answer<S: RunStore>(
             object,
             function,
         } => calls_answer(
-            store, alloc, selection, CallSide::Callees, event, object, function, most,
+            store,
+            alloc,
+            selection,
+            CallSide::Callees,
+            event,
+            object,
+            function,
+            most,
         ),
         Query::Subtract {
             first,
@@ -140,12 +154,7 @@ fn keep_short(answered: Result<Answer, StoreError>, most: usize) -> Result<Answe
 }
 
 /// Answers a question.
-fn ask_in<S: RunStore>(
-    store: &mut S,
-    alloc: Global,
-    most: usize,
-    query: &Query<&[u8]>,
-) -> Answer
+fn ask_in<S: RunStore>(store: &mut S, alloc: Global, most: usize, query: &Query<&[u8]>) -> Answer
     ensures answered { (limits : _) → IsFaithful S.StoreState store.new
         → Answers S.StoreState limits (Ask (plain_query query.now)) result store.old store.new }
     ensures found { Tells S.StoreState store.old store.new (λ t. OrFailed (AnswersIn (plain_query query.now) t) result) }

@@ -14,8 +14,7 @@ use Rattle.sessions.proofs.session.Session.perform.Goals as goal
 pub returns-in-Ask-Csv-clause-answered : goal.returns-in-Ask-Csv-clause-answered
 returns-in-Ask-Csv-clause-answered g c clean =
     let csv : c.in-Ask-Csv.field-0 ≡ Csv c.in-Ask-Csv.selection = rw c.in-Ask-Csv.is at c.in-Ask-Csv.field-0-is in
-    subst (λ one. WasPerformed g.S.StoreState g.W.Write.contents (WereRead g.R.File.Read.remaining) (plain_request one) c.ask_csv.result c.args.self.now c.ask_csv.new.self) (sym c.in-Ask-Csv.is)
-    (
+    subst (λ one. WasPerformed g.S.StoreState g.W.Write.contents (WereRead g.R.File.Read.remaining) (plain_request one) c.ask_csv.result c.args.self.now c.ask_csv.new.self) (sym c.in-Ask-Csv.is) (
       [],
       none_read g.R.File.Read.remaining,
       subst (λ query. WasTold g.S.StoreState g.W.Write.contents (Ask (plain_query query)) c.ask_csv.result c.args.self.now c.ask_csv.new.self) (sym csv) (c.ask_csv.ensures.answered clean),
