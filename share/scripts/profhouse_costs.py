@@ -300,7 +300,31 @@ def moved(before, after):
     return [(gone[it], new[it]) for it in sorted({*gone} & {*new})]
 
 
-def differences(before, after):
-    """How the costs of keys differ, the greatest difference first."""
+def differences(before, after, among=None):
+    """How the costs of keys differ, the greatest difference first; among equal ones that of the greatest change of what
+    `among` has of each."""
+    among = among or {}
     rows = [(after.rows.get(key, 0) - before.rows.get(key, 0), key) for key in {*before.rows, *after.rows}]
-    return sorted((it for it in rows if it[0] != 0), key=lambda it: (-abs(it[0]), it[1]))
+    return sorted((it for it in rows if it[0] != 0), key=lambda it: (-abs(it[0]), -abs(among.get(it[1], 0)), it[1]))
+
+
+# Lines of a function, by file and number, with what they cost in one or more ways.
+
+def moved_lines(before, after):
+    """The lines that an edit only moved, and where each stood: a line that is new and one that is gone, in one file and of
+    exactly equal costs. Of several they are pairs in their order."""
+    gone, new = {}, {}
+    for found, lines, others in ((gone, before, after), (new, after, before)):
+        for file, line in sorted({*lines} - {*others}):
+            found.setdefault((file, lines[file, line]), []).append(line)
+    return {(place[0], line): since for place, lines in new.items() for line, since in zip(lines, gone.get(place, []))}
+
+
+def changes_of_lines(before, after):
+    """The lines whose costs differ, each with how, the greatest change first; and those that only moved, with their old number."""
+    moved = moved_lines(before, after)
+    since = {*moved, *((file, old) for (file, _), old in moved.items())}
+    nothing = (0,) * len(next(iter({**before, **after}.values()), ()))
+    rows = [(place, tuple(one - other for one, other in zip(after.get(place, nothing), before.get(place, nothing)))) for place in {*before, *after} - since]
+    changed = sorted((it for it in rows if any(it[1])), key=lambda it: ([-abs(cost) for cost in it[1]], it[0]))
+    return changed, sorted(moved.items())
