@@ -3,19 +3,18 @@
 import { anchor, barCell, costCell, element, filtered, fullBar, functionCell, leading, nameCell, note, rowsBody,
   shareCell, sum, table } from "./drawing.js";
 import { link } from "./address.js";
+import { toSource } from "./lines.js";
 import { functionOf, inclusive, members, objects, selfCosts, verify } from "./store.js";
-import { grouped, many, share, shown, unescaped } from "./texts.js";
+import { briefs, grouped, many, share, shown, unescaped } from "./texts.js";
 
-// What a row of each view leads to; those of threads lead nowhere.
+// What a row of each view leads to. (No report has the functions of one thread.)
 const LEADS = {
   function: row => ({ fn: row.name, ob: row.object }),
   inclusive: row => ({ fn: row.name, ob: row.object }),
   object: row => ({ view: "function", in: row.name, fn: undefined, ob: undefined, q: undefined }),
   file: row => ({ view: "source", file: row.name, line: undefined, q: undefined }),
-  line: row => {
-    const at = row.name.lastIndexOf(":");
-    return { view: "source", file: row.name.slice(0, at), line: row.name.slice(at + 1), q: undefined };
-  },
+  line: row => toSource(row.name),
+  thread: () => ({ view: "function", in: undefined, q: undefined }),
 };
 
 async function namedRows(view, s, runs, event) {
@@ -45,11 +44,11 @@ export async function report(view, s, runs, event) {
   const { total, rows } = await namedRows(view, s, runs, event);
   const byFunction = view === "function" || view === "inclusive";
   const kept = filtered(rows, row => byFunction ? `${row.object}:${row.name}` : row.name);
-  const top = fullBar(rows, total);
+  const top = fullBar(rows, total), short = byFunction ? briefs(rows.map(row => shown(row.name))) : null;
   const draw = row => {
     const made = element("tr", null, costCell(row.cost), shareCell(row.cost, total), barCell(row.cost, top),
-      byFunction ? functionCell(row) : nameCell(row.name));
-    return view in LEADS ? leading(made, LEADS[view](row)) : made;
+      byFunction ? functionCell(row, short) : nameCell(row.name));
+    return leading(made, LEADS[view](row));
   };
   const columns = [["cost", shown(event)], ["share", "share"], ["bar", ""], ["name", byFunction ? "function" : view]];
   const drawn = table(columns, totalRow(view, s, runs, total, rows, kept), rowsBody(kept, draw));

@@ -7,9 +7,12 @@ const known = new Map();
 
 export class Refusal extends Error {}
 
+// What profhouse_web tells itself stands below scripts/, all else below api/.
+const ITS_OWN = "scripts/";
+
 export async function ask(path, query, body) {
   const words = Object.entries(query ?? {}).filter(([, value]) => value !== undefined);
-  const address = "api/" + path + (words.length ? "?" + words.map(([name, value]) => `${name}=${percent(value)}`).join("&") : "");
+  const address = (path.startsWith(ITS_OWN) ? "" : "api/") + path + (words.length ? "?" + words.map(([name, value]) => `${name}=${percent(value)}`).join("&") : "");
   let response;
   try {
     response = await fetch(address, body ? { method: "POST", body } : {});
@@ -17,7 +20,11 @@ export async function ask(path, query, body) {
     throw new Refusal("The server does not answer.");
   }
   const text = bytesOf(await response.arrayBuffer());
-  if (!response.ok) throw new Refusal(shown(text.trim()) || `the server answers ${response.status}`);
+  if (!response.ok) {
+    const refusal = new Refusal(shown(text.trim()) || `the server answers ${response.status}`);
+    refusal.isUnknown = response.status === 404 || response.status === 405;
+    throw refusal;
+  }
   return text;
 }
 
@@ -88,6 +95,26 @@ export const folded = runs => once("folded", runs, text => text);
 export const csv = runs => once("csv", runs, readCsv);
 export const calls = (which, runs, event, object, name) =>
   once(which, { event, object, function: name, ...runs }, readCalls);
+
+// The lines in which calls are made: cost, count, line, file, and the function at their other end.
+const readLines = text => readRows(linesOf(text).slice(1), /^(\d+) (\d+) (\d+) ([^\t]*)\t(.*)$/s)
+  .map(it => ({ cost: BigInt(it[1]), count: BigInt(it[2]), line: it[3], path: unescaped(it[4]), key: it[5] }));
+
+// Whether they are told: not where the page is served by another program. That is asked once.
+let isTold = true;
+
+export async function callLines(which, runs, event, object, name) {
+  if (!isTold) return [];
+  try {
+    return await once(ITS_OWN + which, { event, object, function: name, ...runs }, readLines);
+  } catch (error) {
+    if (!(error instanceof Refusal) || error.message.startsWith("refused: ")) throw error;
+    isTold &&= !error.isUnknown;
+    if (isTold) throw error;
+    return [];
+  }
+}
+
 export const difference = (key, runs, less, event) =>
   once("subtract/" + key, { event, ...runs, less_run: less.run, less_group: less.group }, readDifference);
 
