@@ -136,7 +136,7 @@ class Table:
         most, room = width() and width() - 1, sum(widths) + 2 * len(widths)
         last = most and max(NARROWEST, most - room)
         names = shortened([cells[-1] for cells, _ in rows], last) if last else None
-        below = iter(short_lines([it for _, lines in rows for it in lines], last))
+        below = iter(short_lines([it for _, lines in rows for it in lines], last and max(NARROWEST, last - 2)))
         yield cut(self.title, most)
         for cells, lines in rows:
             yield "  ".join([*(it.rjust(wide) for it, wide in zip(cells, widths)), names[cells[-1]] if names else cells[-1]]).rstrip()
