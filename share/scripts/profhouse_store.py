@@ -1,4 +1,5 @@
-"""What scripts beside this file share: the tables of a store's file, read beside the program, and the lines of calls in them.
+"""What scripts beside this file share: the tables of a store's file, read beside the program, and the lines of functions and
+of calls in them.
 
 It takes no lock, so nobody waits for it, and it writes nothing to the store. Where the log of the store is empty, the file
 is read as it stands, else a copy of both, which goes in the end. What was read counts only if neither was changed
@@ -17,7 +18,7 @@ import time
 from collections import namedtuple
 from pathlib import Path
 
-from profhouse_http import escaped
+from profhouse_http import escaped, plain
 from profhouse_script import Fault, reason_of, shown
 
 TABLES = {"meta", "run", "run_event", "derived", "coef", "name", "arc", "stack", "grp", "member", "thread_cell"}
@@ -28,6 +29,7 @@ HEAD_OF_LOG = 32
 TICK, PATIENCE = 0.02, 5
 # What prctl takes for the name of a process.
 PR_SET_NAME = 15
+LINES = "SELECT fl, line, event, cost FROM thread_cell WHERE run = ? AND fn = ? AND ob = ?"
 CALLERS = "SELECT ob, fn, fl, line, part, n FROM arc WHERE run = ? AND cob = ? AND cfn = ?"
 CALLEES = "SELECT cob, cfn, fl, line, part, n FROM arc WHERE run = ? AND ob = ? AND fn = ?"
 
@@ -193,13 +195,12 @@ class Names:
 
 
 def factors_of(base, run, event):
-    """How often each part of a call counts in an event of a run. Of a run without the event none does."""
+    """How often each event of a run, by its place, counts in one. Of a run without that none does."""
     found = base.execute("SELECT pos FROM run_event WHERE run = ? AND name = ?", (run, event)).fetchone()
     if found:
-        return {found[0] + 1: 1}
+        return {found[0]: 1}
     found = base.execute("SELECT pos FROM derived WHERE run = ? AND name = ?", (run, event)).fetchone()
-    rows = base.execute("SELECT event, n FROM coef WHERE run = ? AND pos = ?", (run, found[0])) if found else ()
-    return {at + 1: n for at, n in rows}
+    return dict(base.execute("SELECT event, n FROM coef WHERE run = ? AND pos = ?", (run, found[0]))) if found else {}
 
 
 def runs_of(base, group):
@@ -207,6 +208,25 @@ def runs_of(base, group):
     if group is None:
         return [it for it, in base.execute("SELECT run FROM run ORDER BY run")]
     return [it for it, in base.execute("SELECT run FROM member WHERE grp = ? ORDER BY run", (group,))]
+
+
+def numbers_of(base, key):
+    """The numbers of each function and its object that are printed as this key: both may have colons."""
+    cuts = [at for at, sign in enumerate(key) if sign == ord(":")]
+    pairs = ((number_of(base, plain(key[at + 1:])), number_of(base, plain(key[:at]))) for at in cuts)
+    return [it for it in pairs if None not in it]
+
+
+def lines_of_function(base, runs, event, key):
+    """What the lines of a function cost in some runs, by file and line. It is named as reports have it, as they have the lines."""
+    lines, names, numbers = {}, Names(base), numbers_of(base, key)
+    for run in runs:
+        factors = factors_of(base, run, event)
+        for file, line, at, cost in (row for it in numbers for row in base.execute(LINES, (run, *it))):
+            if factors.get(at):
+                place = names.of(file), line
+                lines[place] = lines.get(place, 0) + cost * factors[at]
+    return lines
 
 
 def lines_of_calls(base, which, runs, event, object_, function):
@@ -220,8 +240,14 @@ def lines_of_calls(base, which, runs, event, object_, function):
             lines = ends.setdefault(names.of(ob) + b":" + names.of(fn), {})
             place = names.of(file), line
             cost, count = lines.get(place, (0, 0))
-            lines[place] = Calls(cost + n * factors.get(part, 0), count + (n if part == 0 else 0))
+            lines[place] = Calls(cost + n * factors.get(part - 1, 0), count + (n if part == 0 else 0))
     return ends
+
+
+def check_sum(lines, cost, said):
+    """Refuses lines of a function that do not sum to what the program says of it."""
+    if sum(lines.values()) != cost:
+        raise Fault(f"{said}: the lines in the store's file do not sum to what profhouse says of the function")
 
 
 def check_sums(ends, rows, said):

@@ -4,7 +4,7 @@ import { go, link } from "./address.js";
 import { anchor, changeCell, costCell, element, functionCell, greatest, leading, nameCell, note, rowsBody, sum, table, widen } from "./drawing.js";
 import { lessOf, matchOf, PLACES } from "./difference.js";
 import { toHistory } from "./history.js";
-import { addLine, changesOfLines, fileBy, inOrder, linesOfFunctions, placeOf } from "./lines.js";
+import { addLine, changesOfLines, fileBy, inOrder, linesOf, placeOf } from "./lines.js";
 import { callLines, calls, events, functionOf, inclusive, members, nameOf, objects, Refusal, runs as allRuns, selfCosts,
   where } from "./store.js";
 import { base, briefs, grouped, part, share, shown, signed, signOf, size } from "./texts.js";
@@ -46,7 +46,7 @@ async function ends(which, s, runs, event, places, known, untold) {
     found.cost += row.cost;
     found.count += row.count;
   }
-  for (const it of (await lines).flat()) addLine(endOf(it).lines, { ...it, file: fileOf(it.path) });
+  for (const it of (await lines).flat().filter(Boolean)) addLine(endOf(it).lines, { ...it, file: fileOf(it.path) });
   return sums;
 }
 
@@ -122,20 +122,19 @@ function callTable(title, event, now, before, less) {
   return [head, rows.length ? table(columns, rowsBody(rows, draw)) : note("none")];
 }
 
-// What a function's own lines cost in some runs.
-async function ownLines(s, runs, event, places) {
-  const found = await linesOfFunctions(runs, event, matchOf(s), (object, name) => name === s.fn && places.includes(object) ? "" : undefined);
-  return found.get("") ?? new Map();
-}
+const ownLines = (s, runs, event, places, isAsked) => linesOf(runs, event, matchOf(s), s.fn, places, s.derived, isAsked);
+
+const NO_LINES = "A derived event is in no export.";
 
 function linesButton(s, runs, event, places) {
   const box = element("div"), button = element("button", { id: "own-lines" }, "its lines");
   button.onclick = async () => {
     button.disabled = true;
-    const rows = [...(await ownLines(s, runs, event, places)).values()].sort((a, b) => a.cost < b.cost ? 1 : a.cost > b.cost ? -1 : 0), total = sum(rows);
+    const found = await ownLines(s, runs, event, places, true);
+    const rows = [...(found?.values() ?? [])].sort((a, b) => a.cost < b.cost ? 1 : a.cost > b.cost ? -1 : 0), total = sum(rows);
     const draw = row => leading(element("tr", null, costCell(row.cost), element("td", { className: "count" }, share(row.cost, total)),
       nameCell(placeOf(row))), sourceOf(row));
-    box.replaceChildren(rows.length ? table([["cost", shown(event)], ["count", ""], ["name", "line"]], rowsBody(rows, draw)) : note("no costs"));
+    box.replaceChildren(rows.length ? table([["cost", shown(event)], ["count", ""], ["name", "line"]], rowsBody(rows, draw)) : note(found ? "no costs" : NO_LINES));
     widen();
   };
   return [element("h3", null, button), box];
@@ -147,23 +146,33 @@ function linesThatDiffer(s, sides, event, places) {
   const draw = row => leading(element("tr", null, changeCell(row.cost), nameCell(placeOf(row), row.from && `moved from ${row.from}`)), sourceOf(row, sides[1]));
   const put = (rows, most) => {
     box.replaceChildren(rows.length ? table([["cost", shown(event)], ["name", "line"]], rowsBody(rows.slice(0, most), draw)) : note("none"));
-    if (most < rows.length) box.append(element("button", { id: "all-lines", onclick: () => button.onclick() }, `all ${rows.length} lines`));
+    if (most < rows.length) box.append(element("button", { id: "all-lines", onclick: () => put(rows, rows.length) }, `all ${rows.length} lines`));
     button.disabled = most >= rows.length;
+    button.onclick = () => put(rows, rows.length);
     widen();
   };
-  Promise.all(sides.map((it, at) => ownLines(s, it, event, places[at]))).then(([now, before]) => {
-    const rows = changesOfLines(before, now), differ = rows.filter(it => !it.from).length;
-    count.textContent = ` (${differ}${differ === 1 ? " differs" : " differ"}${differ < rows.length ? `, ${rows.length - differ} only moved` : ""})`;
-    button.onclick = () => put(rows, rows.length);
+  const read = async isAsked => {
+    button.disabled = true;
+    const [now, before] = await Promise.all(sides.map((it, at) => ownLines(s, it, event, places[at], isAsked)));
+    if (!now || !before) {
+      box.replaceChildren(...(s.derived ? [note(NO_LINES)] : []));
+      button.disabled = Boolean(s.derived);
+      button.onclick = () => read(true).catch(failed);
+      return;
+    }
+    const rows = changesOfLines(before, now), differ = rows.filter(it => !it.from).length, moved = rows.length - differ;
+    count.textContent = ` (${differ}${differ === 1 ? " differs" : " differ"}${moved ? `, ${moved} only moved` : ""})`;
     put(rows, rows.length > FEW + 1 ? FEW : rows.length);
-  }).catch(error => box.replaceChildren(note(error.message)));
+  };
+  const failed = error => box.replaceChildren(note(error.message));
+  read(false).catch(failed);
   return [element("h3", null, button, count), box];
 }
 
-// A derived event is in no export, and stacks have no lines.
+// Stacks have no lines.
 function lines(s, sides, event, places) {
   const folded = new Set(allRuns.filter(it => it.kind === "folded").map(it => it.number));
-  if (s.derived || sides.every(it => members(it).every(run => folded.has(run)))) return [];
+  if (sides.every(it => members(it).every(run => folded.has(run)))) return [];
   return sides.length > 1 ? linesThatDiffer(s, sides, event, places) : linesButton(s, sides[0], event, places[0]);
 }
 

@@ -3,7 +3,7 @@
 import { go, link, packed, unpacked } from "./address.js";
 import { anchor, changeCell, changeShareCell, element, filtered, functionCell, greatest, leading, nameCell, note,
   rowsBody, table, toolbar, twoBarCell } from "./drawing.js";
-import { baselineOf, difference, functionOf, inclusive, members, nameOf, objects, runName, runs as allRuns, selfCosts,
+import { baselineOf, difference, FEW, functionOf, inclusive, members, nameOf, objects, runName, runs as allRuns, selfCosts,
   where } from "./store.js";
 import { movedIn, placeOf, toSource } from "./lines.js";
 import { base, briefs, many, shown, size, unescaped } from "./texts.js";
@@ -81,7 +81,7 @@ async function changes(s, key, sides, event) {
 // something went up by as much as something else of its file went down.)
 async function withoutMoved(s, rows, sides, event, match) {
   const fileOf = row => row.name.slice(0, row.name.lastIndexOf(":")), seen = new Set(rows.map(row => `${row.cost} ${fileOf(row)}`));
-  if (s.derived || !rows.some(row => seen.has(`${-row.cost} ${fileOf(row)}`))) return { rows, moved: [] };
+  if (s.derived || sides.some(it => members(it).length > FEW) || !rows.some(row => seen.has(`${-row.cost} ${fileOf(row)}`))) return { rows, moved: [] };
   const moved = await movedIn(sides, event, match, PLACES[match]), costs = new Map(rows.map(row => [row.name, row.cost]));
   for (const it of moved) {
     for (const [name, cost] of [[placeOf(it), -it.cost], [`${it.file}:${it.from}`, it.cost]]) costs.set(name, (costs.get(name) ?? 0n) + cost);

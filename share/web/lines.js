@@ -1,7 +1,7 @@
 // Lines of functions: which of them cost more than elsewhere, and which an edit only moved. A line is a record with its
 // file as it is compared, its path, its number as digits, its cost and how often it calls, in maps by `placeOf`.
 
-import { csv } from "./store.js";
+import { csv, FEW, lines, members, Refusal } from "./store.js";
 import { base, size } from "./texts.js";
 
 export const placeOf = it => `${it.file}:${it.line}`;
@@ -58,9 +58,27 @@ export function changesOfLines(before, after) {
   return [...rows, ...inOrder(moved).map(it => ({ ...it, cost: 0n, count: 0n }))];
 }
 
+// What the lines of a function cost: as profhouse_web tells it, or else from all costs of the runs. Null where these are
+// many and nobody asked for them, or have no such event.
+export async function linesOf(runs, event, match, name, places, isDerived, isAsked) {
+  const found = new Map(), fileOf = fileBy(match);
+  try {
+    const told = await Promise.all(places.map(it => lines(runs, event, it, name)));
+    if (!told.includes(null)) {
+      for (const it of told.flat()) addLine(found, { ...it, file: fileOf(it.path) });
+      return found;
+    }
+  } catch (error) {
+    if (!(error instanceof Refusal)) throw error;
+  }
+  if (isDerived || !isAsked && members(runs).length > FEW) return null;
+  const all = await linesOfFunctions(runs, event, match, (object, it) => it === name && places.includes(object) ? "" : undefined);
+  return all.get("") ?? found;
+}
+
 // What each line of the functions costs that `wanted` names. No report has the lines of a function, so they are taken from
 // all costs of the runs.
-export async function linesOfFunctions(runs, event, match, wanted) {
+async function linesOfFunctions(runs, event, match, wanted) {
   const found = new Map(), fileOf = fileBy(match);
   for (const [object, path, name, line, of, cost] of await csv(runs)) {
     const key = of === event ? wanted(object, name) : undefined;

@@ -4,6 +4,8 @@ import { bytesOf, labelled, linesOf, percent, shown, unescaped } from "./texts.j
 
 // Answers that were read, by their addresses: the page asks for each once.
 const known = new Map();
+// So many runs are read whole where nobody asked for it, and so many exports are kept.
+export const FEW = 4;
 
 export class Refusal extends Error {}
 
@@ -36,6 +38,8 @@ function once(path, query, read) {
     if (known.size > 300) known.clear();
     const answer = ask(path, query).then(read);
     known.set(name, answer);
+    // (all costs of a run take much memory)
+    if (path === "csv") for (const it of [...known.keys()].filter(it => it.startsWith('["csv"')).slice(0, -FEW)) known.delete(it);
     answer.catch(() => known.delete(name));
   }
   return known.get(name);
@@ -96,24 +100,31 @@ export const csv = runs => once("csv", runs, readCsv);
 export const calls = (which, runs, event, object, name) =>
   once(which, { event, object, function: name, ...runs }, readCalls);
 
-// The lines in which calls are made: cost, count, line, file, and the function at their other end.
-const readLines = text => readRows(linesOf(text).slice(1), /^(\d+) (\d+) (\d+) ([^\t]*)\t(.*)$/s)
-  .map(it => ({ cost: BigInt(it[1]), count: BigInt(it[2]), line: it[3], path: unescaped(it[4]), key: it[5] }));
-
-// Whether they are told: not where the page is served by another program. That is asked once.
+// Whether profhouse_web tells lines, or the page is served by another program. That is seen once.
 let isTold = true;
 
-export async function callLines(which, runs, event, object, name) {
-  if (!isTold) return [];
+// What it tells, or null.
+async function told(what, query, read) {
+  if (!isTold) return null;
   try {
-    return await once(ITS_OWN + which, { event, object, function: name, ...runs }, readLines);
+    return await once(ITS_OWN + what, query, read);
   } catch (error) {
-    if (!(error instanceof Refusal) || error.message.startsWith("refused: ")) throw error;
-    isTold &&= !error.isUnknown;
-    if (isTold) throw error;
-    return [];
+    if (!(error instanceof Refusal) || !error.isUnknown || error.message.startsWith("refused: ")) throw error;
+    isTold = false;
+    return null;
   }
 }
+
+// The lines in which calls are made: cost, count, line, file, and the function at their other end.
+const readCallLines = text => readRows(linesOf(text).slice(1), /^(\d+) (\d+) (\d+) ([^\t]*)\t(.*)$/s)
+  .map(it => ({ cost: BigInt(it[1]), count: BigInt(it[2]), line: it[3], path: unescaped(it[4]), key: it[5] }));
+
+// Those of a function itself.
+const readLines = text => readRows(linesOf(text).slice(1), /^(\d+) (\d+) (.*)$/s)
+  .map(it => ({ cost: BigInt(it[1]), count: 0n, line: it[2], path: unescaped(it[3]) }));
+
+export const callLines = (which, runs, event, object, name) => told(which, { event, object, function: name, ...runs }, readCallLines);
+export const lines = (runs, event, object, name) => told("lines", { event, object, function: name, ...runs }, readLines);
 
 export const difference = (key, runs, less, event) =>
   once("subtract/" + key, { event, ...runs, less_run: less.run, less_group: less.group }, readDifference);

@@ -410,9 +410,8 @@ def cases_of_lines(tried):
     found = json.loads(ask("jumps", "--lines", "--json").out)[0]["calls"]
     tried.expect("as data", found, [it.strip() for it in LINES_TEXT.splitlines()[3:-1]])
     found = json.loads(ask("jumps", "--lines", "--json", event="Twice").out)[0]["calls"]
-    # (no export has a derived event, so a function's own lines are not known)
     tried.expect("lines of a derived event", found, ["called by /opt/app:main: +2,000, +5 calls", "in line m.c:23: +2,400, +6 calls", "in line m.c:20: -400, -1 call",
-                                                     "in line m.c:13: moved from 10"])
+                                                     "in line m.c:13: moved from 10", "at w.c:9: +2,800", "at w.c:8: moved from 5"])
     tried.expect("the other way", json.loads(tried.script(NAME, "jumps", "--db", swapped(tried), "--event", "Ir", "--lines", "--json").out)[0]["calls"], [
         "called by /opt/app:main: -1,000, -5 calls", "in line m.c:23: -1,200, -6 calls", "in line m.c:20: +200, +1 call", "in line m.c:10: moved from 13",
         "at w.c:9: -1,400", "at w.c:5: moved from 8"])

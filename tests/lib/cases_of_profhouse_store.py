@@ -15,6 +15,8 @@ from tried import SCRIPTS, TOP
 
 PROFILES = os.path.join(TOP, "tests", "web_profiles")
 NUMBERS = (1, 2, 3)
+# Two functions that reports print alike: b:c of /a, and c of /a:b.
+ALIKE = b"events: Ir\nob=/a\nfl=x.c\nfn=b:c\n1 5\nob=/a:b\nfn=c\n1 7\n2 1\n"
 # Functions of two files, and a call in a file that another includes; a derived event; names that are no UTF-8, or have control codes.
 ODD = (b"events: Ir Dr\nevent: Both = Ir + 2 Dr\nob=/a:b\nfl=x.c\nfn=from\xe9\n1 5 1\ncob=/c\ncfi=y.c\ncfn=to\there\ncalls=3 1\n2 30 4\n"
        b"fi=x.h\ncob=/c\ncfi=z.c\ncfn=to\there\ncalls=2 1\n7 20 0\nfe=x.c\ncob=/c\ncfi=y.c\ncfn=to\there\ncalls=0 1\n9 8 0\n")
@@ -26,6 +28,11 @@ def asked(tables, which, event, name, function, runs=(1,)):
         return tables.ask(lambda base: profhouse_store.lines_of_calls(base, which, runs, event, name, function))
     except Fault as fault:
         return str(fault)
+
+
+def lines_of(tables, event, key, runs=(1,)):
+    """What the lines of a function cost."""
+    return tables.ask(lambda base: profhouse_store.lines_of_function(base, runs, event, key))
 
 
 def printed(ends):
@@ -63,7 +70,11 @@ def cases_of_all_calls(tried):
                     found, count = asked(tables, which, b"Ir", name.encode(), function.encode(), [number]), count + 1
                     if found != printed(wanted):
                         wrong.append((number, which, name, function, found, wanted))
-        tried.expect(f"{count} lists of calls", (wrong[:1], count > 300), ([], True))
+                key = f"{name}:{function}".encode()
+                found = lines_of(tables, b"Ir", key, [number])
+                if found != {(file.encode(), line): cost for (file, line), cost in profile.lines_of(name, function).items() if cost}:
+                    wrong.append((number, "lines", key, found))
+        tried.expect(f"{count} lists of calls, and the lines of functions", (wrong[:1], count > 300), ([], True))
         of = "/builds/3/words", "lookup"
         for which in ("callers", "callees"):
             found = asked(tables, which, b"Ir", of[0].encode(), of[1].encode(), [3])
@@ -84,6 +95,9 @@ def cases_of_events(tried):
     here, there = (b"/a:b", b"from\xe9"), (b"/c", b"to\there")
     lines = {(b"x.c", 2): (30, 3, 38), (b"x.h", 7): (20, 2, 20), (b"x.c", 9): (8, 0, 8)}
     with profhouse_store.tables_of(tried.path("odd.db")) as tables:
+        tried.expect("lines", [lines_of(tables, event, b"/a:b:from\xe9") for event in (b"Ir", b"Dr", b"Both", b"ir")], [
+            {(b"x.c", 1): cost} if cost else {} for cost in (5, 1, 7, 0)])
+        tried.expect("lines of no function", [lines_of(tables, b"Ir", it) for it in (b"/a:b:from", b"from\xe9", b"/a:from\xe9", b"")], [{}] * 4)
         for event, at in ((b"Ir", 0), (b"Both", 2)):
             wanted = {it: (costs[at], costs[1]) for it, costs in lines.items()}
             tried.expect(f"callers in {event}", asked(tables, "callers", event, *there), {b"/a:b:from\xe9": wanted})
@@ -101,6 +115,18 @@ def cases_of_events(tried):
         except Fault as fault:
             said = str(fault)
         tried.expect(f"sums: {what}", said, "callers of x: the lines of the calls in the store's file do not sum to what profhouse says of them" if is_refused else None)
+
+
+def cases_of_names_alike(tried):
+    tried.profhouse("import", "--db", "alike.db", tried.write("alike.cg", ALIKE))
+    with profhouse_store.tables_of(tried.path("alike.db")) as tables:
+        tried.expect("functions that are printed alike are added up", lines_of(tables, b"Ir", b"/a:b:c"), {(b"x.c", 1): 12, (b"x.c", 2): 1})
+    for cost, is_refused in ((13, False), (5, True)):
+        try:
+            said = profhouse_store.check_sum({1: 12, 2: 1}, cost, "f")
+        except Fault as fault:
+            said = str(fault)
+        tried.expect(f"a sum of {cost}", said, "f: the lines in the store's file do not sum to what profhouse says of the function" if is_refused else None)
 
 
 def cases_of_refusals(tried):
@@ -165,5 +191,5 @@ def cases_of_backups(tried):
 
 
 def cases(tried):
-    for part in (cases_of_all_calls, cases_of_events, cases_of_refusals, cases_of_writers, cases_of_backups):
+    for part in (cases_of_all_calls, cases_of_events, cases_of_names_alike, cases_of_refusals, cases_of_writers, cases_of_backups):
         part(tried)
