@@ -211,11 +211,17 @@ class Matched:
 
 # Calls.
 
-def calls_of(server, which, of, event, name):
-    """The callers or callees of a function in runs of Callgrind, and their sum; none where there is no such function."""
-    text = answer_of(server, f"/{which}", NO_NAME, **of, event=event, object=plain(name.object), function=plain(name.name))
-    if text is None:
-        return 0, []
+def calls_of_each(server, asked, event):
+    """The calls that are asked for, each by `callers` or `callees`, a run of Callgrind and the name of a function: their sum, and
+    each; none where there is no such function."""
+    questions = [(f"/{which}", {**of_run(run), "event": event, "object": plain(name.object), "function": plain(name.name)}) for which, run, name in asked]
+    for (which, run, name), (_, query), answer in zip(asked, questions, server.answers(questions)):
+        text = accepted_of(answer, NO_NAME, query)
+        yield (0, []) if text is None else calls_in_answer(text, which, of_run(run), event, name)
+
+
+def calls_in_answer(text, which, of, event, name):
+    """The calls that an answer has, and their sum."""
     head = b" ".join([which.encode(), escaped(os.fsencode(event)), name.object + b":" + name.name])
     total, *rows = [Call(int(it[1]), int(it[2]), it[3]) for it in fields_of(text, CALL_LINE, 1)] or [None]
     if text.partition(b"\n")[0] != head or total is None or total.key != b"total":

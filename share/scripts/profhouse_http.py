@@ -244,7 +244,11 @@ class Server:
 def answer_here(program, store, path, query):
     """The answer of the program itself to a question for a report, or None where it gives none."""
     command, _, key = path[1:].partition("/")
-    words = [program, "by" if key else command, f"--db={store}", *(f"--{name}={value}" for name, value in query.items()), *([key] if key else [])]
+    options = {name: os.fsdecode(value) for name, value in query.items()}
+    operand = key or options.pop("function", "")
+    words = [program, "by" if key else command, f"--db={store}", *(f"--{name}={value}" for name, value in options.items()), *(["--", operand] if operand else [])]
+    if any("\0" in it for it in words):
+        return None
     done = subprocess.run(words, stdin=subprocess.DEVNULL, stdout=subprocess.PIPE, stderr=subprocess.DEVNULL, check=False)
     accepted = done.returncode == 0
     return (accepted, done.stdout) if accepted or done.returncode == 1 and REFUSAL.fullmatch(done.stdout) else None
