@@ -30,6 +30,7 @@ TICK, PATIENCE = 0.02, 5
 # What prctl takes for the name of a process.
 PR_SET_NAME = 15
 LINES = "SELECT fl, line, event, cost FROM thread_cell WHERE run = ? AND fn = ? AND ob = ?"
+OF_THREAD = "SELECT ob, fn, event, sum(cost) FROM thread_cell WHERE run = ? AND thread = ? GROUP BY ob, fn, event"
 CALLERS = "SELECT ob, fn, fl, line, part, n FROM arc WHERE run = ? AND cob = ? AND cfn = ?"
 CALLEES = "SELECT cob, cfn, fl, line, part, n FROM arc WHERE run = ? AND ob = ? AND fn = ?"
 
@@ -229,6 +230,18 @@ def lines_of_function(base, runs, event, key):
     return lines
 
 
+def functions_of_thread(base, runs, event, thread):
+    """What each function costs in one thread of some runs, by its key."""
+    costs, names = {}, Names(base)
+    for run in runs:
+        factors = factors_of(base, run, event)
+        for ob, fn, at, cost in base.execute(OF_THREAD, (run, thread)):
+            if factors.get(at):
+                key = names.of(ob) + b":" + names.of(fn)
+                costs[key] = costs.get(key, 0) + cost * factors[at]
+    return costs
+
+
 def lines_of_calls(base, which, runs, event, object_, function):
     """The calls of a function (`callers`) or by it (`callees`) in some runs: by the function at their other end, and there by
     the file and the line of the caller. The names that are asked for are bytes, those that are found as reports have them."""
@@ -244,10 +257,10 @@ def lines_of_calls(base, which, runs, event, object_, function):
     return ends
 
 
-def check_sum(lines, cost, said):
-    """Refuses lines of a function that do not sum to what the program says of it."""
-    if sum(lines.values()) != cost:
-        raise Fault(f"{said}: the lines in the store's file do not sum to what profhouse says of the function")
+def check_sum(parts, cost, said):
+    """Refuses the lines of a function, or the functions of a thread, that do not sum to what the program says of it."""
+    if sum(parts.values()) != cost:
+        raise Fault(f"{said}: its costs in the store's file do not sum to what profhouse says of it")
 
 
 def check_sums(ends, rows, said):

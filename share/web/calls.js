@@ -196,7 +196,7 @@ export async function panel(s, runs, event) {
   const untold = new Set(), [now, before] = await Promise.all(sides.map((it, at) => side(s, it, event, places[at], known, untold)));
   return [...head, element("div", { className: "cards" }, card("self", now, before, "own"), card("with all that it calls", now, before, "all")),
     element("div", { className: "small" }, anchor(link(toHistory([...new Set(places.flat())].at(0), s.fn)), "its history", { id: "its-history", title: "its history ( h )" })),
-    ...inStacks(s, runs), ...lines(s, sides, event, places), ...callTable("Called by", event, now.callers, before?.callers, less),
+    ...(s.thread && ["function", "difference"].includes(s.view) ? [note("All costs here are of all threads.")] : []), ...inStacks(s, runs), ...lines(s, sides, event, places), ...callTable("Called by", event, now.callers, before?.callers, less),
     ...callTable("Calls", event, now.callees, before?.callees, less),
     ...[...untold].map(it => note(`The lines of calls are not told: ${it}`))];
 }

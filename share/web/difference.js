@@ -3,19 +3,19 @@
 import { go, link, packed, unpacked } from "./address.js";
 import { anchor, changeCell, changeShareCell, element, filtered, functionCell, greatest, leading, nameCell, note,
   rowsBody, table, toolbar, twoBarCell } from "./drawing.js";
-import { baselineOf, difference, FEW, functionOf, inclusive, members, nameOf, objects, runName, runs as allRuns, selfCosts,
+import { baselineOf, difference, FEW, functionOf, inclusive, members, nameOf, objects, ofThread, runName, runs as allRuns, selfCosts,
   where } from "./store.js";
 import { movedIn, placeOf, toSource } from "./lines.js";
 import { base, briefs, many, shown, size, unescaped } from "./texts.js";
 
 const KEYS = ["function", "file", "object", "line", "thread"];
-// What a row of each leads to. (No report has the functions of one thread.)
+// What a row of each leads to.
 const LEADS = {
   function: row => ({ fn: row.name, ob: row.ob }),
   file: row => ({ view: "source", file: row.name, line: undefined, q: undefined }),
   object: row => ({ key: "function", q: row.name, fn: undefined, ob: undefined }),
   line: row => toSource(row.name),
-  thread: () => ({ key: "function", q: undefined, fn: undefined, ob: undefined }),
+  thread: row => ({ key: "function", thread: row.name, calls: undefined, q: undefined, fn: undefined, ob: undefined }),
 };
 
 // Builds in two folders have two paths for one object or file. What of the path counts, by match=
@@ -58,23 +58,32 @@ const order = (a, b) => {
 async function inclusiveDifference(s, sides, event) {
   const [[now, before], self] = await Promise.all([
     Promise.all(sides.map(it => where(it, event, s.derived, () => inclusive(it, event)))), difference("function", ...sides, event)]);
+  const own = new Map(self.rows.map(row => [row.key, row.cost])), { total, rows } = less(now, before);
+  return { total, rows: rows.map(row => ({ ...row, own: own.get(row.key) ?? 0n })) };
+}
+
+// Costs by their keys, one side less the other.
+function less(now, before) {
   const costs = new Map(now.rows.map(row => [row.key, row.cost]));
   for (const row of before.rows) costs.set(row.key, (costs.get(row.key) ?? 0n) - row.cost);
-  const own = new Map(self.rows.map(row => [row.key, row.cost]));
-  const rows = [...costs].filter(([, cost]) => cost !== 0n).map(([key, cost]) => ({ key, cost, own: own.get(key) ?? 0n }));
-  return { total: now.total - before.total, rows };
+  return { total: now.total - before.total, rows: [...costs].filter(([, cost]) => cost !== 0n).map(([key, cost]) => ({ key, cost })) };
+}
+
+function found(s, key, sides, event) {
+  if (key !== "function") return difference(key, ...sides, event);
+  if (!s.thread) return s.calls ? inclusiveDifference(s, sides, event) : difference(key, ...sides, event);
+  return Promise.all(sides.map(it => where(it, event, s.derived, () => ofThread(it, event, s.thread)))).then(it => less(...it));
 }
 
 async function changes(s, key, sides, event) {
-  const byFunction = key === "function", match = matchOf(s);
-  const found = byFunction && s.calls ? await inclusiveDifference(s, sides, event) : await difference(key, ...sides, event);
+  const byFunction = key === "function", match = matchOf(s), { total, rows: all } = await found(s, key, sides, event);
   const known = byFunction ? (await Promise.all(sides.map(it => objects(it, event, s.derived)))).flat() : null;
   known?.sort((a, b) => b.length - a.length);
-  const rows = found.rows.map(row => ({ cost: row.cost, own: row.own ?? 0n,
+  const rows = all.map(row => ({ cost: row.cost, own: row.own ?? 0n,
     ...(byFunction ? functionOf(row.key, known) : { name: unescaped(row.key) }) }));
   const kept = match === "path" ? rows.map(row => ({ ...row, ob: row.object })) : merged(rows, byFunction, match);
   const moved = key === "line" ? await withoutMoved(s, kept, sides, event, match) : { rows: kept, moved: [] };
-  return { total: found.total, rows: [...moved.rows.sort(order), ...moved.moved] };
+  return { total, rows: [...moved.rows.sort(order), ...moved.moved] };
 }
 
 // Takes out of the differences by line what an edit only moved. (All costs of both sides are read for that, so only where
@@ -117,7 +126,9 @@ function bar(s, key, sides) {
   const costs = [["self", undefined], ["with all that they call", "1"]].map(([text, value]) =>
     anchor(link({ calls: value }), text, { className: s.calls === value ? "on" : "" }));
   const turned = less && packed(runs) ? anchor(link({ run: less.run, group: less.group, less: packed(runs) }), "turn round") : null;
-  return toolbar(element("span", { className: "choices" }, byKey), key === "function" ? element("span", { className: "choices" }, costs) : null,
+  const thread = key === "function" && s.thread ? element("span", { className: "chip" }, `in thread ${shown(s.thread)} `,
+    anchor(link({ thread: undefined }), "×", { title: "functions of all threads" })) : null;
+  return toolbar(element("span", { className: "choices" }, byKey), key !== "function" ? null : thread ?? element("span", { className: "choices" }, costs),
     less && key !== "thread" ? matchChoice(s, key === "function") : null, turned,
     less ? element("span", { className: "small" }, `${nameOf(runs)}, less ${nameOf(less)}`) : null);
 }

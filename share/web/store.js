@@ -100,7 +100,7 @@ export const csv = runs => once("csv", runs, readCsv);
 export const calls = (which, runs, event, object, name) =>
   once(which, { event, object, function: name, ...runs }, readCalls);
 
-// Whether profhouse_web tells lines, or the page is served by another program. That is seen once.
+// Whether profhouse_web tells what no report has, or the page is served by another program. That is seen once.
 let isTold = true;
 
 // What it tells, or null.
@@ -116,15 +116,26 @@ async function told(what, query, read) {
 }
 
 // The lines in which calls are made: cost, count, line, file, and the function at their other end.
-const readCallLines = text => readRows(linesOf(text).slice(1), /^(\d+) (\d+) (\d+) ([^\t]*)\t(.*)$/s)
+const readCallLines = text => readRows(linesOf(text), /^(\d+) (\d+) (\d+) ([^\t]*)\t(.*)$/s)
   .map(it => ({ cost: BigInt(it[1]), count: BigInt(it[2]), line: it[3], path: unescaped(it[4]), key: it[5] }));
 
 // Those of a function itself.
-const readLines = text => readRows(linesOf(text).slice(1), /^(\d+) (\d+) (.*)$/s)
+const readLines = text => readRows(linesOf(text), /^(\d+) (\d+) (.*)$/s)
   .map(it => ({ cost: BigInt(it[1]), count: 0n, line: it[2], path: unescaped(it[3]) }));
 
 export const callLines = (which, runs, event, object, name) => told(which, { event, object, function: name, ...runs }, readCallLines);
 export const lines = (runs, event, object, name) => told("lines", { event, object, function: name, ...runs }, readLines);
+
+// What functions cost in one thread, as a report has it.
+const readFunctions = text => {
+  const rows = readRows(linesOf(text), /^(\d+) (.*)$/s).map(it => ({ cost: BigInt(it[1]), key: it[2] }));
+  return { total: rows.reduce((sum, row) => sum + row.cost, 0n), rows };
+};
+export async function ofThread(runs, event, thread) {
+  const found = await told("functions", { event, thread, ...runs }, readFunctions);
+  if (!found) throw new Refusal("Only profhouse_web tells the functions of a thread.");
+  return found;
+}
 
 export const difference = (key, runs, less, event) =>
   once("subtract/" + key, { event, ...runs, less_run: less.run, less_group: less.group }, readDifference);

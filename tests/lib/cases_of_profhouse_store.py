@@ -97,6 +97,9 @@ def cases_of_events(tried):
     with profhouse_store.tables_of(tried.path("odd.db")) as tables:
         tried.expect("lines", [lines_of(tables, event, b"/a:b:from\xe9") for event in (b"Ir", b"Dr", b"Both", b"ir")], [
             {(b"x.c", 1): cost} if cost else {} for cost in (5, 1, 7, 0)])
+        tried.expect("functions of a thread", [tables.ask(lambda base, it=it: profhouse_store.functions_of_thread(base, [1], it, 0)) for it in (b"Ir", b"Both", b"ir")], [
+            {b"/a:b:from\xe9": 5}, {b"/a:b:from\xe9": 7}, {}])
+        tried.expect("functions of no thread", tables.ask(lambda base: profhouse_store.functions_of_thread(base, [1], b"Ir", 1)), {})
         tried.expect("lines of no function", [lines_of(tables, b"Ir", it) for it in (b"/a:b:from", b"from\xe9", b"/a:from\xe9", b"")], [{}] * 4)
         for event, at in ((b"Ir", 0), (b"Both", 2)):
             wanted = {it: (costs[at], costs[1]) for it, costs in lines.items()}
@@ -126,7 +129,7 @@ def cases_of_names_alike(tried):
             said = profhouse_store.check_sum({1: 12, 2: 1}, cost, "f")
         except Fault as fault:
             said = str(fault)
-        tried.expect(f"a sum of {cost}", said, "f: the lines in the store's file do not sum to what profhouse says of the function" if is_refused else None)
+        tried.expect(f"a sum of {cost}", said, "f: its costs in the store's file do not sum to what profhouse says of it" if is_refused else None)
 
 
 def cases_of_refusals(tried):

@@ -98,3 +98,39 @@ def template_instances(it):
         it.page.open(address)
         it.cells("names in short", "#content .rows tr", ["code"], [["shop::Cache<\u2026int>::get(\u2026)"], ["shop::Cache<\u2026long>::get(\u2026)"], ["shop::Alone<\u2026>::put(\u2026)"]])
         it.quiet("template instances")
+
+
+# Two builds of three threads: in the second, thread 2 costs 500 more in `read`, and thread 3 is as it was.
+THREADS = ["""events: Ir
+thread: 2
+fn=read
+1 {read}
+fn=main
+2 30
+thread: 3
+fn=read
+1 700
+""".format(read=it) for it in (100, 600)]
+
+
+@trial
+def threads(it):
+    """A thread leads to its functions, alone and in a difference."""
+    with of_its_own(it, "threads", *THREADS) as address:
+        it.page.open(f"{address}#run=2&view=thread")
+        it.cells("threads", "#content .rows tr", [".cost", "code"], [["700", "3"], ["630", "2"]])
+        it.page.click("document.querySelectorAll('#content .rows tr')[1]")
+        it.cells("the functions of one", "#content .rows tr", [".cost", ".share", "code"], [["600", "95.23 %", "read"], ["30", "4.76 %", "main"]])
+        it.text("which one", "#content .chip", "in thread 2 \u00d7")
+        it.page.click("document.querySelector('#content .rows tr')")
+        it.text("calls know no threads", "#detail > .note", "All costs here are of all threads.")
+        it.page.click("document.querySelector('#content .chip a')")
+        it.cells("those of all", "#content .rows tr", [".cost", "code"], [["1300", "read"], ["30", "main"]])
+        it.page.open(f"{address}#run=2&less=r1&view=difference&key=thread")
+        it.cells("threads that differ", "#content .rows tr", [".cost", "code"], [["+500", "2"]])
+        it.page.click("document.querySelector('#content .rows tr')")
+        it.cells("the functions of one that differ", "#content .rows tr", [".cost", "code"], [["+500", "read"]])
+        it.text("which thread that is", "#content .chip", "in thread 2 \u00d7")
+        it.page.open(f"{address}#run=2&less=r1&view=difference&thread=3")
+        it.text("one that does not differ", "#content .note", "No difference.")
+        it.quiet("threads")
