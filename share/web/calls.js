@@ -183,6 +183,9 @@ function inStacks(s, runs) {
   return [note("Stacks have no calls: ", anchor(there, "look at it in the flame graph"), ".")];
 }
 
+// Beside the functions of one thread.
+const ofThreads = s => s.thread && ["function", "difference"].includes(s.view) ? [note("All costs here are of all threads.")] : [];
+
 export async function panel(s, runs, event) {
   const less = s.view === "difference" ? lessOf(s, runs) : null, sides = less ? [runs, less] : [runs];
   const known = (await Promise.all(sides.map(it => objects(it, event, s.derived)))).flat().sort((a, b) => b.length - a.length);
@@ -196,7 +199,7 @@ export async function panel(s, runs, event) {
   const untold = new Set(), [now, before] = await Promise.all(sides.map((it, at) => side(s, it, event, places[at], known, untold)));
   return [...head, element("div", { className: "cards" }, card("self", now, before, "own"), card("with all that it calls", now, before, "all")),
     element("div", { className: "small" }, anchor(link(toHistory([...new Set(places.flat())].at(0), s.fn)), "its history", { id: "its-history", title: "its history ( h )" })),
-    ...(s.thread && ["function", "difference"].includes(s.view) ? [note("All costs here are of all threads.")] : []), ...inStacks(s, runs), ...lines(s, sides, event, places), ...callTable("Called by", event, now.callers, before?.callers, less),
+    ...ofThreads(s), ...inStacks(s, runs), ...lines(s, sides, event, places), ...callTable("Called by", event, now.callers, before?.callers, less),
     ...callTable("Calls", event, now.callees, before?.callees, less),
     ...[...untold].map(it => note(`The lines of calls are not told: ${it}`))];
 }
