@@ -75,7 +75,8 @@ function joined(now, before) {
   for (const key of new Set([...now.keys(), ...(before?.keys() ?? [])])) {
     const a = now.get(key) ?? nothing, b = before?.get(key) ?? nothing;
     const lines = before ? changesOfLines(b.lines, a.lines) : [...a.lines.values()];
-    const row = { ...b, ...a, cost: a.cost - b.cost, count: a.count - b.count, lines: inOrder(lines) };
+    // (line 0 means none)
+    const row = { ...b, ...a, cost: a.cost - b.cost, count: a.count - b.count, lines: inOrder(lines.filter(it => it.line !== "0")) };
     if (!before || row.cost !== 0n || row.count !== 0n) rows.push(row);
   }
   return rows.sort((a, b) => size(a.cost) < size(b.cost) ? 1 : size(a.cost) > size(b.cost) ? -1 : a.name < b.name ? -1 : 1);

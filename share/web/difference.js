@@ -165,7 +165,7 @@ export async function differenceView(s, runs, event) {
   const totalRow = element("tbody", null, element("tr", { className: "total" }, changeCell(total),
     changeShareCell(total, before), element("td", { className: "bar" }), element("td", null, text)));
   const columns = [["cost", shown(event)], ["share", "of all before"], ["bar", ""], ["name", key]];
-  const better = matchOf(s) === "path" ? twins(rows, byFunction) : null;
+  const better = matchOf(s) === "path" ? twins(rows.filter(row => !row.from), byFunction) : null;
   const hint = better ? note("Some names cost more in one place and less in another, as builds in two folders do. ",
     anchor(link({ match: better, fn: undefined, ob: undefined }), `Compare ${SAID[better]}`), ".") : null;
   return [bar(s, key, sides), hint, table(columns, totalRow, rowsBody(kept, draw)), rows.length ? null : note("No difference.")];
