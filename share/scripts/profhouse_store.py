@@ -1,7 +1,7 @@
 """What scripts beside this file share: the tables of a store's file, read beside the program, and the lines of functions and
 of calls in them.
 
-It takes no lock, so nobody waits for it, and it writes nothing to the store. Where the log of the store is empty, the file
+It takes no lock, so nobody waits for it, and it writes nothing to the store. Where the log of the store has no change, the file
 is read as it stands, else a copy of both, which goes in the end. What was read counts only if neither was changed
 meanwhile, as a report of the program does it. It is imported, not run. A script that is copied elsewhere needs this file,
 profhouse_http.py and profhouse_script.py beside it.
@@ -23,8 +23,8 @@ from profhouse_script import Fault, reason_of, shown
 
 TABLES = {"meta", "run", "run_event", "derived", "coef", "name", "arc", "stack", "grp", "member", "thread_cell"}
 LOG, JOURNAL = "-wal", "-journal"
-# So long is the head of a log without a change.
-HEAD_OF_LOG = 32
+# A log with a change is as long as this: a head, and a page with a head of its own.
+SHORTEST_LOG = 32 + 24 + 512
 # Two writes within so many seconds may leave the same times; and for so long is a store tried that is written to.
 TICK, PATIENCE = 0.02, 5
 # What prctl takes for the name of a process.
@@ -118,7 +118,7 @@ class Tables:
             return self.base
         self.close()
         path, how = self.path, "mode=ro&immutable=1"
-        if looks[1] and looks[1][2] > HEAD_OF_LOG:
+        if looks[1] and looks[1][2] >= SHORTEST_LOG:
             self.folder = tempfile.TemporaryDirectory(prefix="profhouse.")
             path, how = os.path.join(self.folder.name, "store"), "mode=rw"
             for end in ("", LOG):

@@ -388,12 +388,12 @@ fn=work
 LINES_TEXT = f"""jumps of Ir by function in 2 runs: more than 2%
 run  change             before   cost  function
   2  +1,000  +200.00 %     500  1,500  /opt/app:work
-{'':39}called by /opt/app:main: +1,000, +5 calls
-{'':39}  in line m.c:23: +1,200, +6 calls
-{'':39}  in line m.c:20: -200, -1 call
-{'':39}  in line m.c:13: moved from 10
-{'':39}at w.c:9: +1,400
-{'':39}at w.c:8: moved from 5
+{'':41}called by /opt/app:main: +1,000, +5 calls
+{'':41}  in line m.c:23: +1,200, +6 calls
+{'':41}  in line m.c:20: -200, -1 call
+{'':41}  in line m.c:13: moved from 10
+{'':41}at w.c:9: +1,400
+{'':41}at w.c:8: moved from 5
 run 2 (moved2.cg)
 """
 

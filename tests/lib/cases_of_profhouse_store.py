@@ -62,7 +62,7 @@ def cases_of_all_calls(tried):
     with tried.serving("s.db") as address, profhouse_store.tables_of(tried.path("s.db")) as tables:
         with open(os.path.join(PROFILES, "words3.cg"), "rb") as file:
             tried.expect("an import beside it", tried.run("curl", "-s", "--data-binary", "@-", f"{address}/runs/callgrind?label=l", given=file.read()).out, b"run 3\n")
-        tried.expect("it stands in the log", os.path.getsize(tried.path("s.db-wal")) > profhouse_store.HEAD_OF_LOG, True)
+        tried.expect("it stands in the log", os.path.getsize(tried.path("s.db-wal")) > profhouse_store.SHORTEST_LOG, True)
         before, wrong, count = state_of(tried), [], 0
         for number, profile in profiles.items():
             for name, function in profile.functions():
