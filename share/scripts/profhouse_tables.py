@@ -157,7 +157,7 @@ class Table:
         """Each row by the names of its columns."""
         for values, lines in self.rows:
             row = {it.key: datum(values.get(it.key), it.kind) for it in self.columns}
-            yield row, [str(it) for it in lines]
+            yield row, [str(it).strip() for it in lines]
 
     def csv(self):
         text = io.StringIO()
