@@ -422,7 +422,7 @@ def cases_of_lines(tried):
     tried.expect("so do jumps", names, ["/opt/app:work", "/opt/app:all", "/opt/app:begin", "/opt/app:main"])
     tried.expect("no call is recorded", ask("callers", "main").out.decode().splitlines()[1:], [
         "   cost            calls  caller", "101,500  100.00 %      -  total", "101,500  100.00 %      -  /opt/app:begin", "-: no call is recorded"])
-    tried.expect("nobody calls", ask("callers", "all").out.decode().splitlines()[1:], ["cost    calls  caller", "   0            -  total", "-: no call is recorded"])
+    tried.expect("nobody calls", ask("callers", "all").out.decode().splitlines()[1:], ["cost    calls  caller", "   0        -  total", "-: no call is recorded"])
     tried.expect("as data it is a number", rows_of(ask("callers", "main", "--csv"))[1:], [["101500", "100.00", "0", "/opt/app:begin"]])
 
 
