@@ -3,11 +3,12 @@
 All costs are whole numbers as a server prints them, and the rows of a report have to sum to its total. It is imported, not
 run. A script that is copied elsewhere needs this file beside it.
 """
+import operator
 import os
 import re
 from collections import namedtuple
 
-from profhouse_http import CALL_LINE, SHARE_LINE, SUM_LINE, escaped, fields_of, plain, rows_of, said_by
+from profhouse_http import CALL_LINE, SHARE_LINE, SUM_LINE, escaped, fields_of, pairs_of, plain, said_by
 from profhouse_names import Name, last_part, matched, names_of
 from profhouse_script import Fault, WordFault, shown
 
@@ -17,6 +18,9 @@ AROUND = 2
 NO_EVENT, NO_NAME = b"refused: no such event\n", b"refused: no such name\n"
 LIMIT = re.compile(r"([0-9]{1,1000})(?:(?:\.([0-9]{1,1000}))?(%))?")
 STACK_LINE = re.compile(rb"([^\n]+) ([0-9]{1,4000})")
+
+# What a pair of a name and a cost has.
+COST = operator.itemgetter(1)
 
 # The total of a run, and the cost of each key as it is printed.
 Costs = namedtuple("Costs", "total rows")
@@ -89,12 +93,12 @@ def said_of(query):
     return next((f"{it} {shown(query[it])}" for it in ("run", "group") if it in query), "the server")
 
 
-def added(rows):
+def added(pairs):
     """The costs by their keys. Names that are printed alike, as `a:b:c` of object `a` or `a:b`, are one."""
-    costs = {key: cost for cost, key in rows}
-    if len(costs) < len(rows):
+    costs = dict(pairs)
+    if len(costs) < len(pairs):
         costs = dict.fromkeys(costs, 0)
-        for cost, key in rows:
+        for key, cost in pairs:
             costs[key] += cost
     return costs
 
@@ -107,10 +111,10 @@ def question_of(of, event, key, inclusive=False):
 
 def costs_in(text, of, event, key, inclusive=False):
     """The costs that an answer has. Self costs sum to the total, those with all that is called sum to nothing."""
-    total, rows = rows_of(text, SHARE_LINE, "inclusive" if inclusive else f"by {key or 'object'}", event)
+    total, rows = pairs_of(text, SHARE_LINE, "inclusive" if inclusive else f"by {key or 'object'}", event)
     if inclusive:
         return Costs(total, added(rows))
-    if not rows or rows[-1][1] != b"(rest)" or sum(cost for cost, _ in rows) != total or (key and rows[-1][0] != 0):
+    if not rows or rows[-1][0] != b"(rest)" or sum(map(COST, rows)) != total or (key and rows[-1][1] != 0):
         raise Fault(f"{said_of(of)}: the rows of the answer do not sum to its total")
     return Costs(total, added(rows[:-1]))
 
@@ -154,7 +158,8 @@ class Functions:
         self.server, self.event, self.names, self.objects = server, event, {}, set()
 
     def take(self, of, keys):
-        new = [it for it in keys if it not in self.names]
+        """Takes in the functions of a report, by whose keys this is a dict."""
+        new = [] if keys.keys() <= self.names.keys() else [it for it in keys if it not in self.names]
         several = [it for it in new if it.count(b":") > 1]
         if several:
             self.ask(of, self.event)
