@@ -294,12 +294,19 @@ def series_of(costs, key):
     return [it.rows.get(key, 0) for it in costs]
 
 
+def all_series(costs):
+    """Each key, and its costs in all runs. (Key by key, a million costs would take a second.)"""
+    keys = [*set().union(*(it.rows for it in costs))]
+    nothing, of_all = dict.fromkeys(keys, 0), operator.itemgetter(*keys) if len(keys) > 1 else lambda rows: [rows[it] for it in keys]
+    return zip(keys, zip(*(of_all({**nothing, **it.rows}) for it in costs)))
+
+
 def jumps_of(costs, rule):
     """The jumps of all keys over runs of which these are the costs: place and key, the greatest change first."""
     totals, found = [it.total for it in costs], []
-    for key in set().union(*(it.rows for it in costs)):
-        series = series_of(costs, key)
-        found += [(at, key, change(series, at), series) for at in rule.jumps_in(series, totals)]
+    for key, series in all_series(costs):
+        if series.count(series[0]) < len(series):
+            found += [(at, key, change(series, at), series) for at in rule.jumps_in(series, totals)]
     return sorted(found, key=lambda it: (-abs(it[2]), it[0], it[1]))
 
 

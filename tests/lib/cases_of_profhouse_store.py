@@ -1,11 +1,11 @@
 """share/scripts/profhouse_store.py: the lines of calls in a store's file, beside a server, a writer and a backup. What is wanted
 was added up from the profiles by plain loops."""
 import hashlib
+import itertools
 import os
 import sqlite3
 import subprocess
 import sys
-import threading
 
 import forked  # noqa: F401  pylint: disable=unused-import  (with it Python finds the modules of the scripts)
 import profhouse_store
@@ -154,7 +154,7 @@ def cases_of_refusals(tried):
 
 
 def cases_of_writers(tried):
-    """One who holds all locks of the file, and one who writes all the time."""
+    """One who holds all locks of the file, and a file that is another at each look."""
     path, patience = tried.path("odd.db"), profhouse_store.PATIENCE
     wanted = {b"/a:b:from\xe9": {(b"x.c", 2): (30, 3), (b"x.h", 7): (20, 2), (b"x.c", 9): (8, 0)}}
     writer = sqlite3.connect(path, isolation_level=None)
@@ -163,18 +163,14 @@ def cases_of_writers(tried):
     with profhouse_store.tables_of(path) as tables:
         tried.expect("a locked store", asked(tables, "callers", b"Ir", b"/c", b"to\there"), wanted)
         writer.execute("ROLLBACK")
-        going = threading.Event()
+        looks_at, longer = profhouse_store.looks_at, itertools.count()
 
-        def write():
-            while not going.is_set():
-                os.utime(path)
-        busy = threading.Thread(target=write)
-        busy.start()
-        profhouse_store.PATIENCE = 0.2
+        def grown(path):
+            look, log = looks_at(path)
+            return (*look[:2], look[2] + next(longer), *look[3:]), log
+        profhouse_store.looks_at, profhouse_store.PATIENCE = grown, 0.2
         tried.expect("one that is changed all the time", asked(tables, "callers", b"Ir", b"/c", b"to\there"), f"{path} is changed all the time: try again")
-        going.set()
-        busy.join()
-        profhouse_store.PATIENCE = patience
+        profhouse_store.looks_at, profhouse_store.PATIENCE = looks_at, patience
         tried.expect("afterwards", asked(tables, "callers", b"Ir", b"/c", b"to\there"), wanted)
     writer.close()
 
