@@ -51,7 +51,7 @@ def look_at(path):
     except FileNotFoundError:
         return None
     if not stat.S_ISREG(found.st_mode) or found.st_nlink != 1:
-        raise Fault(f"{shown(path)} is a link or has two names: give the file itself")
+        raise Fault(f"{shown(path)} is no file, or has two names")
     return found.st_dev, found.st_ino, found.st_size, found.st_mtime_ns, found.st_ctime_ns
 
 
@@ -100,7 +100,8 @@ class Tables:
     as the store is unchanged."""
 
     def __init__(self, path):
-        self.path, self.turn = os.path.abspath(path), threading.Lock()
+        # (the log stands beside the file, not beside a link to it)
+        self.path, self.turn = os.path.realpath(path), threading.Lock()
         self.looks = self.base = self.folder = None
         # (a backup halts programs of this name, and goes on without a copy where one of another name reads)
         ctypes.CDLL(None).prctl(PR_SET_NAME, b"profhouse_read")

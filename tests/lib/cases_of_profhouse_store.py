@@ -135,14 +135,18 @@ def cases_of_names_alike(tried):
 def cases_of_refusals(tried):
     """What is no store, and what cannot be read in one state."""
     path = tried.path("odd.db")
-    os.symlink(path, tried.path("link.db"))
+    os.mkdir(tried.path("folder.db"))
+    os.mkdir(tried.path("links"))
+    os.symlink(path, tried.path("links/link.db"))
+    with profhouse_store.tables_of(tried.path("links/link.db")) as tables:
+        tried.expect("a link leads to the file", lines_of(tables, b"Ir", b"/a:b:from\xe9"), {(b"x.c", 1): 5})
     tried.write("text.db", "no database\n" * 100)
     tried.write("empty.db", "")
     with sqlite3.connect(tried.path("other.db")) as base:
         base.execute("CREATE TABLE meta(schema)")
     with sqlite3.connect(tried.path("view.db")) as base:
         base.executescript("".join(f"CREATE VIEW {it} AS SELECT 2 AS schema;" for it in profhouse_store.TABLES))
-    for name, said in (("link.db", "is a link"), ("none.db", "there is no store"), ("text.db", "cannot be read"), ("empty.db", "is no store"), ("other.db", "is no store"), ("view.db", "is no store")):
+    for name, said in (("folder.db", "is no file"), ("none.db", "there is no store"), ("text.db", "cannot be read"), ("empty.db", "is no store"), ("other.db", "is no store"), ("view.db", "is no store")):
         with profhouse_store.tables_of(tried.path(name)) as tables:
             found = asked(tables, "callers", b"Ir", b"/c", b"f")
             tried.expect(f"{name} is refused", found if said not in found else said, said)
