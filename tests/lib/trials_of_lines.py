@@ -1,4 +1,9 @@
 """Trials of the page about lines: those of a function that differ, those of calls, and those that an edit moved."""
+import contextlib
+import threading
+import urllib.request
+from http.server import BaseHTTPRequestHandler, ThreadingHTTPServer
+
 from pages import MINUS, at_lines, of_its_own, point_of, trial
 
 # Two builds: the second has three lines more at the head of both files, and calls work five times more in one line of two.
@@ -134,3 +139,45 @@ def threads(it):
         it.page.open(f"{address}#run=2&less=r1&view=difference&thread=3")
         it.text("one that does not differ", "#content .note", "No difference.")
         it.quiet("threads")
+
+
+class Other(BaseHTTPRequestHandler):
+    """Stands for a server that has the page and the store, but nothing of profhouse_web itself."""
+
+    def do_GET(self):
+        if self.path.startswith("/scripts/"):
+            return self.send_error(404)
+        with urllib.request.urlopen(self.server.behind + self.path[1:]) as answer:
+            self.send_response(200)
+            self.send_header("Content-Type", answer.headers["Content-Type"])
+            self.end_headers()
+            return self.wfile.write(answer.read())
+
+    def log_message(self, *_):
+        pass
+
+
+@contextlib.contextmanager
+def other_server(behind):
+    with ThreadingHTTPServer(("127.0.0.1", 0), Other) as server:
+        server.behind = behind
+        threading.Thread(target=server.serve_forever, daemon=True).start()
+        yield f"http://127.0.0.1:{server.server_port}/"
+        server.shutdown()
+
+
+@trial
+def another_server(it):
+    """Where nobody tells lines, those of a function are taken from all costs, and calls have none."""
+    with of_its_own(it, "other", *MOVED) as behind, other_server(behind) as address:
+        it.page.open(f"{address}#run=2&less=r1&view=difference&fn=work&ob=%2fopt%2fapp")
+        it.cells("lines from all costs", "#lines .rows tr", [".cost", "code", ".place"],
+                 [["+1400", "w.c:9", ""], [f"{MINUS}400", "w.c:6", ""], ["0", "w.c:8", "moved from 5"]])
+        it.cells("calls without lines", "#detail > table .rows tr", [".cost", ".count", "code", ".at"], [["+1000", "+5", "main", ""]])
+        it.value("nothing is said of that", "document.querySelectorAll('#detail > .note').length", 1)
+        it.page.open(f"{address}#run=2&less=r1&view=difference&derived=Twice&fn=work&ob=%2fopt%2fapp")
+        it.text("a derived event has no lines", "#lines", "A derived event is in no export.")
+        it.page.open(f"{address}#run=2&view=function&thread=0")
+        it.text("nor has a thread functions", "#content .fault", "Only profhouse_web tells the functions of a thread.")
+        it.expect("the browser says which were not found", [one for one in it.page.errors if "404" not in one], [])
+        it.page.errors.clear()
