@@ -13,12 +13,12 @@ from collections import defaultdict, namedtuple
 from pathlib import Path
 
 from profhouse_script import Fault, shown
+from profhouse_store import check_form
 
 # How many rows are read at a time.
 PIECE = 8192
 CALLGRIND, FOLDED = 1, 2
 KINDS = {CALLGRIND: "callgrind", FOLDED: "folded"}
-TABLES = {"meta", "run", "run_event", "derived", "coef", "name", "arc", "stack", "grp", "member", "thread_cell"}
 UNNAMED = b"???"
 GROUP_NAME = re.compile(rb"[A-Za-z0-9._-]{1,64}")
 COSTS = "SELECT ob, fl, fn, line, thread, event, cost FROM thread_cell WHERE run = ?"
@@ -196,16 +196,6 @@ def copied(path):
         yield next(os.path.join(folder, it) for it in os.listdir(folder) if not it.endswith(".origin"))
 
 
-def form_of(base, path):
-    """Refuses what is no store of this version."""
-    kinds = {name.decode("utf-8", "replace"): kind for kind, name in base.execute("SELECT type, lower(name) FROM sqlite_master")}
-    if kinds.get("meta") == b"table" and base.execute("SELECT schema FROM meta").fetchone() == (1,):
-        raise Fault(f"{shown(path)} is a store of version 1, which any command of profhouse migrates")
-    # A view in place of a table might run for ever, and may call functions that do something.
-    if any(kinds.get(it) != b"table" for it in TABLES) or base.execute("SELECT schema FROM meta").fetchone() != (2,):
-        raise Fault(f"{shown(path)} is no store")
-
-
 @contextlib.contextmanager
 def opened(path):
     """A copy of a store, to be read. Nothing else may write to it meanwhile."""
@@ -216,7 +206,7 @@ def opened(path):
             base.text_factory = bytes
             for pragma in ("trusted_schema = OFF", "temp_store = FILE", "cache_size = -4000"):
                 base.execute(f"PRAGMA {pragma}")
-            form_of(base, path)
+            check_form(base, path)
             yield Store(base)
     except sqlite3.Error as error:
         raise Fault(f"{shown(path)} cannot be read: {shown(error)}") from error

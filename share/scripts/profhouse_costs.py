@@ -3,11 +3,12 @@
 All costs are whole numbers as a server prints them, and the rows of a report have to sum to its total. It is imported, not
 run. A script that is copied elsewhere needs this file beside it.
 """
+import operator
 import os
 import re
 from collections import namedtuple
 
-from profhouse_http import CALL_LINE, SHARE_LINE, SUM_LINE, escaped, fields_of, plain, rows_of, said_by
+from profhouse_http import CALL_LINE, SHARE_LINE, SUM_LINE, escaped, fields_of, pairs_of, plain, said_by
 from profhouse_names import Name, last_part, matched, names_of
 from profhouse_script import Fault, WordFault, shown
 
@@ -17,6 +18,9 @@ AROUND = 2
 NO_EVENT, NO_NAME = b"refused: no such event\n", b"refused: no such name\n"
 LIMIT = re.compile(r"([0-9]{1,1000})(?:(?:\.([0-9]{1,1000}))?(%))?")
 STACK_LINE = re.compile(rb"([^\n]+) ([0-9]{1,4000})")
+
+# What a pair of a name and a cost has.
+COST = operator.itemgetter(1)
 
 # The total of a run, and the cost of each key as it is printed.
 Costs = namedtuple("Costs", "total rows")
@@ -89,12 +93,12 @@ def said_of(query):
     return next((f"{it} {shown(query[it])}" for it in ("run", "group") if it in query), "the server")
 
 
-def added(rows):
+def added(pairs):
     """The costs by their keys. Names that are printed alike, as `a:b:c` of object `a` or `a:b`, are one."""
-    costs = {key: cost for cost, key in rows}
-    if len(costs) < len(rows):
+    costs = dict(pairs)
+    if len(costs) < len(pairs):
         costs = dict.fromkeys(costs, 0)
-        for cost, key in rows:
+        for key, cost in pairs:
             costs[key] += cost
     return costs
 
@@ -107,10 +111,10 @@ def question_of(of, event, key, inclusive=False):
 
 def costs_in(text, of, event, key, inclusive=False):
     """The costs that an answer has. Self costs sum to the total, those with all that is called sum to nothing."""
-    total, rows = rows_of(text, SHARE_LINE, "inclusive" if inclusive else f"by {key or 'object'}", event)
+    total, rows = pairs_of(text, SHARE_LINE, "inclusive" if inclusive else f"by {key or 'object'}", event)
     if inclusive:
         return Costs(total, added(rows))
-    if not rows or rows[-1][1] != b"(rest)" or sum(cost for cost, _ in rows) != total or (key and rows[-1][0] != 0):
+    if not rows or rows[-1][0] != b"(rest)" or sum(map(COST, rows)) != total or (key and rows[-1][1] != 0):
         raise Fault(f"{said_of(of)}: the rows of the answer do not sum to its total")
     return Costs(total, added(rows[:-1]))
 
@@ -154,7 +158,8 @@ class Functions:
         self.server, self.event, self.names, self.objects = server, event, {}, set()
 
     def take(self, of, keys):
-        new = [it for it in keys if it not in self.names]
+        """Takes in the functions of a report, by whose keys this is a dict."""
+        new = [] if keys.keys() <= self.names.keys() else [it for it in keys if it not in self.names]
         several = [it for it in new if it.count(b":") > 1]
         if several:
             self.ask(of, self.event)
@@ -211,11 +216,17 @@ class Matched:
 
 # Calls.
 
-def calls_of(server, which, of, event, name):
-    """The callers or callees of a function in runs of Callgrind, and their sum; none where there is no such function."""
-    text = answer_of(server, f"/{which}", NO_NAME, **of, event=event, object=plain(name.object), function=plain(name.name))
-    if text is None:
-        return 0, []
+def calls_of_each(server, asked, event):
+    """The calls that are asked for, each by `callers` or `callees`, a run of Callgrind and the name of a function: their sum, and
+    each; none where there is no such function."""
+    questions = [(f"/{which}", {**of_run(run), "event": event, "object": plain(name.object), "function": plain(name.name)}) for which, run, name in asked]
+    for (which, run, name), (_, query), answer in zip(asked, questions, server.answers(questions)):
+        text = accepted_of(answer, NO_NAME, query)
+        yield (0, []) if text is None else calls_in_answer(text, which, of_run(run), event, name)
+
+
+def calls_in_answer(text, which, of, event, name):
+    """The calls that an answer has, and their sum."""
     head = b" ".join([which.encode(), escaped(os.fsencode(event)), name.object + b":" + name.name])
     total, *rows = [Call(int(it[1]), int(it[2]), it[3]) for it in fields_of(text, CALL_LINE, 1)] or [None]
     if text.partition(b"\n")[0] != head or total is None or total.key != b"total":
@@ -283,12 +294,19 @@ def series_of(costs, key):
     return [it.rows.get(key, 0) for it in costs]
 
 
+def all_series(costs):
+    """Each key, and its costs in all runs. (Key by key, a million costs would take a second.)"""
+    keys = [*set().union(*(it.rows for it in costs))]
+    nothing, of_all = dict.fromkeys(keys, 0), operator.itemgetter(*keys) if len(keys) > 1 else lambda rows: [rows[it] for it in keys]
+    return zip(keys, zip(*(of_all({**nothing, **it.rows}) for it in costs)))
+
+
 def jumps_of(costs, rule):
     """The jumps of all keys over runs of which these are the costs: place and key, the greatest change first."""
     totals, found = [it.total for it in costs], []
-    for key in set().union(*(it.rows for it in costs)):
-        series = series_of(costs, key)
-        found += [(at, key, change(series, at), series) for at in rule.jumps_in(series, totals)]
+    for key, series in all_series(costs):
+        if series.count(series[0]) < len(series):
+            found += [(at, key, change(series, at), series) for at in rule.jumps_in(series, totals)]
     return sorted(found, key=lambda it: (-abs(it[2]), it[0], it[1]))
 
 
@@ -300,7 +318,31 @@ def moved(before, after):
     return [(gone[it], new[it]) for it in sorted({*gone} & {*new})]
 
 
-def differences(before, after):
-    """How the costs of keys differ, the greatest difference first."""
+def differences(before, after, among=None):
+    """How the costs of keys differ, the greatest difference first; among equal ones that of the greatest change of what
+    `among` has of each."""
+    among = among or {}
     rows = [(after.rows.get(key, 0) - before.rows.get(key, 0), key) for key in {*before.rows, *after.rows}]
-    return sorted((it for it in rows if it[0] != 0), key=lambda it: (-abs(it[0]), it[1]))
+    return sorted((it for it in rows if it[0] != 0), key=lambda it: (-abs(it[0]), -abs(among.get(it[1], 0)), it[1]))
+
+
+# Lines of a function, by file and number, with what they cost in one or more ways.
+
+def moved_lines(before, after):
+    """The lines that an edit only moved, and where each stood: a line that is new and one that is gone, in one file and of
+    exactly equal costs. Of several they are pairs in their order."""
+    gone, new = {}, {}
+    for found, lines, others in ((gone, before, after), (new, after, before)):
+        for file, line in sorted({*lines} - {*others}):
+            found.setdefault((file, lines[file, line]), []).append(line)
+    return {(place[0], line): since for place, lines in new.items() for line, since in zip(lines, gone.get(place, []))}
+
+
+def changes_of_lines(before, after):
+    """The lines whose costs differ, each with how, the greatest change first; and those that only moved, with their old number."""
+    moved = moved_lines(before, after)
+    since = {*moved, *((file, old) for (file, _), old in moved.items())}
+    nothing = (0,) * len(next(iter({**before, **after}.values()), ()))
+    rows = [(place, tuple(one - other for one, other in zip(after.get(place, nothing), before.get(place, nothing)))) for place in {*before, *after} - since]
+    changed = sorted((it for it in rows if any(it[1])), key=lambda it: ([-abs(cost) for cost in it[1]], it[0]))
+    return changed, sorted(moved.items())

@@ -46,6 +46,8 @@ RUN_LINE = re.compile(rb"(%s) (callgrind|folded) ([0-9a-f]{64}) ([^\x00-\x1f\x7f
 GROUP_LINE = re.compile(rb"([A-Za-z0-9._-]{1,64}) (-|%s) (-|%s(?:,%s)*)" % (NUMBER, NUMBER, NUMBER))
 SHARE_LINE = re.compile(rb"(%s) [0-9]{1,4000}\.[0-9]{2}%% (%s)" % (COST, NAME))
 COST_LINE = re.compile(rb"(%s) (%s)" % (COST, NAME))
+# So many lines are kept in mind.
+MOST_SEEN = 1 << 18
 # The same as whole lines.
 LINES = {it: re.compile(rb"^%s\n" % it.pattern, re.M) for it in (SHARE_LINE, COST_LINE)}
 CALL_LINE = re.compile(rb"(%s) ([0-9]{1,4000}) (%s)" % (COST, NAME))
@@ -244,7 +246,11 @@ class Server:
 def answer_here(program, store, path, query):
     """The answer of the program itself to a question for a report, or None where it gives none."""
     command, _, key = path[1:].partition("/")
-    words = [program, "by" if key else command, f"--db={store}", *(f"--{name}={value}" for name, value in query.items()), *([key] if key else [])]
+    options = {name: os.fsdecode(value) for name, value in query.items()}
+    operand = key or options.pop("function", "")
+    words = [program, "by" if key else command, f"--db={store}", *(f"--{name}={value}" for name, value in options.items()), *(["--", operand] if operand else [])]
+    if any("\0" in it for it in words):
+        return None
     done = subprocess.run(words, stdin=subprocess.DEVNULL, stdout=subprocess.PIPE, stderr=subprocess.DEVNULL, check=False)
     accepted = done.returncode == 0
     return (accepted, done.stdout) if accepted or done.returncode == 1 and REFUSAL.fullmatch(done.stdout) else None
@@ -323,14 +329,49 @@ def fields_of(text, form, skipped=0):
 
 def rows_of(report, form, head, event):
     """The total of a report, and the cost and the name of each row: its lines are of this form behind the head."""
-    start = report.find(b"\n") + 1
-    # (all lines in one step, as 200 runs of a program have half a million; the other way finds the line that is at fault)
-    rows = [(int(cost), name) for cost, name in LINES[form].findall(report, start)] if start else []
-    if len(rows) != report.count(b"\n", start) or not report.endswith(b"\n"):
-        rows = [(int(it[1]), it[2]) for it in fields_of(report, form, 1)]
-    if report.partition(b"\n")[0] != f"{head} ".encode() + escaped(os.fsencode(event)) or not rows or rows[0][1] != b"total":
+    total, pairs = pairs_of(report, form, head, event)
+    return total, [(cost, name) for name, cost in pairs]
+
+
+def pairs_of(report, form, head, event):
+    """The total of a report, and the name and the cost of each row."""
+    first, *lines = report.split(b"\n")
+    rows = SEEN[form].pairs_of(lines) if lines and lines.pop() == b"" else None
+    if rows is None:
+        fields_of(report, form, 1)
+    if first != f"{head} ".encode() + escaped(os.fsencode(event)) or not rows or rows[0][0] != b"total":
         raise Fault(f"the answer is no report `{head} {shown(event)}`")
-    return rows[0][0], rows[1:]
+    return rows[0][1], rows[1:]
+
+
+class Seen:
+    """The lines of reports that were read: two hundred runs of a program have a million rows, of which most are those of the
+    run before."""
+
+    def __init__(self, form):
+        self.form, self.rows, self.names = LINES[form], {}, {}
+
+    def pairs_of(self, lines):
+        """The name and the cost of each line, or None where one is out of form."""
+        found = [*map(self.rows.get, lines)]
+        new = [at for at, it in enumerate(found) if it is None]
+        if new and not self.read([lines[at] for at in new]):
+            return None
+        for at in new:
+            found[at] = self.rows[lines[at]]
+        return found
+
+    def read(self, lines):
+        """Takes note of new lines, and says whether all are in form."""
+        if len(self.rows) > MOST_SEEN:
+            self.rows, self.names = {}, {}
+        found = self.form.findall(b"\n".join([*lines, b""]))
+        if len(found) == len(lines):
+            self.rows.update((line, (self.names.setdefault(name, name), int(cost))) for line, (cost, name) in zip(lines, found))
+        return len(found) == len(lines)
+
+
+SEEN = {it: Seen(it) for it in LINES}
 
 
 def rows_of_csv(text):

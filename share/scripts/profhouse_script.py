@@ -51,12 +51,16 @@ def installed(name):
     return "profhouse-" + re.sub("^profhouse_", "", name).replace("_", "-")
 
 
+def called(script, text):
+    """A text about a script, with the name by which that was called."""
+    return text.replace(script, installed(script)) if os.path.basename(sys.argv[0]) == installed(script) else text
+
+
 def words_of(name, about, **more):
     """What reads the words of a script, of which `about` is the help. Both have the name by which it was called."""
     script = name.split(" ")[0]
-    if os.path.basename(sys.argv[0]) == installed(script):
-        name, about = (it.replace(script, installed(script)) for it in (name, about))
-        more = {it: text.replace(script, installed(script)) for it, text in more.items()}
+    name, about = called(script, name), called(script, about)
+    more = {it: called(script, text) for it, text in more.items()}
     return Words(prog=name, description=about, allow_abbrev=False, formatter_class=argparse.RawDescriptionHelpFormatter, **more)
 
 
@@ -70,7 +74,7 @@ def reason_of(error):
 def complain(name, why):
     """Says on the standard error what cannot be done. A line that begins with two blanks goes on with the one before."""
     if sys.stderr is not None:  # (where it is closed, print would take the standard output)
-        print("\n".join(shown(line) for line in f"{name}: {why}".split("\n")), file=sys.stderr)
+        print("\n".join(shown(line) for line in f"{called(name, name)}: {why}".split("\n")), file=sys.stderr)
 
 
 def run(name, main, fault=2):

@@ -11,6 +11,7 @@ import shutil
 import sys
 from collections import namedtuple
 
+from profhouse_names import shortened
 from profhouse_script import shown
 
 LONGEST = 160
@@ -21,6 +22,24 @@ LEVELS = "▁▂▃▄▅▆▇█"
 # A column: its name in data, its head for people, and what its cells are: a `number` of a run, a `cost`, a `change` of one,
 # a `share` in percent, or a `name`. A `label` is in data alone.
 Column = namedtuple("Column", "key head kind")
+
+
+class Said(namedtuple("Said", "front name back")):
+    """A line that has a name in it, as it is shown."""
+
+    def __str__(self):
+        return "".join(self)
+
+    def short(self, names, most):
+        """The line in so many characters, where its name is one of these."""
+        room = max(NARROWEST, most - len(self.front) - len(self.back))
+        return cut(self.front + shortened(names, room)[self.name] + self.back, most)
+
+
+def short_lines(lines, most):
+    """Lines as a text has them; with `most` in so many characters."""
+    names = [it.name for it in lines if isinstance(it, Said)]
+    return [it.short(names, most) if most and isinstance(it, Said) else cut(str(it), most) for it in lines]
 
 
 def add_formats(words):
@@ -34,7 +53,7 @@ def add_formats(words):
 
 def code(words):
     """Words as they stand, of which none is Markdown."""
-    text = cut(shown(words), LONGEST)
+    text = str(words._replace(name=cut(words.name, LONGEST))) if isinstance(words, Said) else cut(shown(words), LONGEST)
     ticks = "`" * (1 + max(map(len, re.findall("`+", text)), default=0))
     pad = " " if text.strip("`") != text or text == "" else ""
     return f"{ticks}{pad}{text}{pad}{ticks}"
@@ -96,7 +115,7 @@ def datum(value, kind):
 
 class Table:
     """Rows, which have values by the names of the columns. The last column is a name. Below a row stand its `lines`, which
-    data has as a list, and below the table the `notes`, which data has not."""
+    data has as a list, and below the table the `notes`, which data has not; both are texts or `Said`."""
 
     def __init__(self, title, columns):
         self.title, self.columns = title, columns
@@ -110,16 +129,19 @@ class Table:
         return [([text_of(values.get(it.key), it.kind) for it in self.shown], lines) for values, lines in self.rows]
 
     def text(self):
+        """Lines for people. In a terminal names are as short as it is wide."""
         rows = [([it.head for it in self.shown], []), *self.cells()]
         widths = [max(len(cells[at]) for cells, _ in rows) for at in range(len(self.shown) - 1)]
         # (a line that is cut has a sign more)
         most, room = width() and width() - 1, sum(widths) + 2 * len(widths)
         last = most and max(NARROWEST, most - room)
+        names = shortened([cells[-1] for cells, _ in rows], last) if last else None
+        below = iter(short_lines([it for _, lines in rows for it in lines], last and max(NARROWEST, last - 2)))
         yield cut(self.title, most)
         for cells, lines in rows:
-            yield "  ".join([*(it.rjust(wide) for it, wide in zip(cells, widths)), cut(cells[-1], last)]).rstrip()
-            yield from (f"{'':{room}}  {cut(it, last)}" for it in lines)
-        yield from (cut(it, most) for it in self.notes)
+            yield "  ".join([*(it.rjust(wide) for it, wide in zip(cells, widths)), names[cells[-1]] if names else cells[-1]]).rstrip()
+            yield from (f"{'':{room}}  {next(below)}" for _ in lines)
+        yield from short_lines(self.notes, most)
 
     def markdown(self):
         yield f"**{code(self.title)}**"
@@ -135,7 +157,7 @@ class Table:
         """Each row by the names of its columns."""
         for values, lines in self.rows:
             row = {it.key: datum(values.get(it.key), it.kind) for it in self.columns}
-            yield row, lines
+            yield row, [str(it).strip() for it in lines]
 
     def csv(self):
         text = io.StringIO()

@@ -2,6 +2,7 @@
 // strings of bytes, as names are.
 //
 //   view=  run= or group= or all=1  event= or derived=  q= the filter  in= an object alone  fn= and ob= the function of the panel
+//   thread= of a list of functions, one thread alone
 //   zero=1 where it was found by a call that costs nothing
 //   less=r1 or gNAME  key=  calls=1 with all that is called  match=  sum=1 many runs less one     of a difference
 //   zoom= frames joined by ;     file= and line= of a source

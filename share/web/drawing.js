@@ -1,7 +1,7 @@
 // Parts of the page that several views have.
 
 import { go, state } from "./address.js";
-import { base, brief, grouped, part, share, shown, signed, signedShare, signOf, size } from "./texts.js";
+import { base, grouped, part, share, shown, signed, signedShare, signOf, size } from "./texts.js";
 
 export const $ = id => document.getElementById(id);
 
@@ -21,17 +21,18 @@ export const fault = text => element("p", { className: "fault", role: "alert" },
 export const anchor = (href, text, properties) => element("a", { href, ...properties }, text);
 export const toolbar = (...children) => element("div", { className: "toolbar" }, ...children);
 
-// A name is shown as it is read, short where it is long, and whole as a hint.
-export function functionCell(row) {
+// A name is shown as it is read, in short where `short` has that, and whole as a hint.
+export function functionCell(row, short, ...below) {
   const name = shown(row.name), object = row.place ?? (row.object === "???" ? "" : shown(base(row.object)));
   return element("td", { className: "name", title: `${name}\n${row.places ?? shown(row.object)}` },
-    element("code", null, brief(name)), object ? element("span", { className: "place" }, object) : null);
+    element("code", null, short.get(name) ?? name), object ? element("span", { className: "place" }, object) : null, ...below);
 }
 
 // Of a path that is too long, the end is shown.
-export function nameCell(name) {
+export function nameCell(name, said) {
   const text = shown(name), at = text.lastIndexOf("/") + 1;
-  return element("td", { className: "name path", title: text },
+  // (the cell goes from right to left)
+  return element("td", { className: "name path", title: said ? `${text}, ${said}` : text }, said ? element("span", { className: "place" }, said) : null,
     element("code", null, element("span", { className: "folder" }, text.slice(0, at)), text.slice(at)));
 }
 
@@ -103,10 +104,10 @@ export function leading(row, change) {
   return row;
 }
 
-// Of the rows in a box Tab reaches one, and the arrows lead to the others.
+// Of the rows in a box Tab reaches one, with the lines in it, and the arrows lead to the others.
 export function reachable(box, row) {
-  for (const it of box.querySelectorAll("tr.leads[tabindex='0']")) it.tabIndex = -1;
-  if (row) row.tabIndex = 0;
+  for (const it of box.querySelectorAll("tr.leads[tabindex='0'], tr.leads [tabindex='0']")) it.tabIndex = -1;
+  if (row) for (const it of [row, ...row.querySelectorAll(".at a, .at button")]) it.tabIndex = 0;
 }
 
 // Marks the rows of the function that is looked at.

@@ -212,7 +212,7 @@ class Line {
   open(at) {
     const run = this.view.runs[at].number, before = this.before(at);
     const of = this.name ? { fn: this.name.name, ob: PLACES[before === undefined ? "path" : this.view.match](this.name.object) } : { fn: undefined, ob: undefined };
-    const gone = { group: undefined, all: undefined, sum: undefined, key: undefined, q: undefined, ...of };
+    const gone = { group: undefined, all: undefined, sum: undefined, key: undefined, thread: undefined, q: undefined, ...of };
     hint(null, "");
     // (what makes the total jump is seen best where functions have all that they call)
     if (!this.name) gone.calls = "1";

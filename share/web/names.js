@@ -1,10 +1,7 @@
 // The names that people type: a part of a function's name that fits one alone is enough, without the object.
 // share/scripts/profhouse_names.py has the same rules.
 
-import { shown, toBytes, without } from "./texts.js";
-
-// A name without what stands in its brackets: ns::Cache<int, long>::get(int) is ns::Cache::get.
-export const bare = name => without(name, "");
+import { bare, shown, toBytes } from "./texts.js";
 
 // The names, as pairs of object and name, that a word fits best: those that it is, else those that it is but for brackets
 // and what stands before a `::`, else those of which it is a part, and last without regard to capitals.

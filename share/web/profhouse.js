@@ -256,7 +256,7 @@ function pressed(event) {
   else if (event.key === "/") $("filter").focus();
   else if (event.key === "?") help();
   else if (event.key === "Escape") escaped(state());
-  else if (event.key === "Enter" && row) go(row.change);
+  else if (event.key === "Enter" && row && !event.target.matches("a, button")) go(row.change);
   else if (!["ArrowDown", "ArrowUp", "Home", "End"].includes(event.key) || event.target.closest?.("#flame, #history") || !moveRow(event.key)) return;
   event.preventDefault();
 }

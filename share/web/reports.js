@@ -3,24 +3,23 @@
 import { anchor, barCell, costCell, element, filtered, fullBar, functionCell, leading, nameCell, note, rowsBody,
   shareCell, sum, table } from "./drawing.js";
 import { link } from "./address.js";
-import { functionOf, inclusive, members, objects, selfCosts, verify } from "./store.js";
-import { grouped, many, share, shown, unescaped } from "./texts.js";
+import { toSource } from "./lines.js";
+import { functionOf, inclusive, members, objects, ofThread, selfCosts, verify } from "./store.js";
+import { briefs, grouped, many, share, shown, unescaped } from "./texts.js";
 
-// What a row of each view leads to; those of threads lead nowhere.
+// What a row of each view leads to.
 const LEADS = {
   function: row => ({ fn: row.name, ob: row.object }),
   inclusive: row => ({ fn: row.name, ob: row.object }),
   object: row => ({ view: "function", in: row.name, fn: undefined, ob: undefined, q: undefined }),
   file: row => ({ view: "source", file: row.name, line: undefined, q: undefined }),
-  line: row => {
-    const at = row.name.lastIndexOf(":");
-    return { view: "source", file: row.name.slice(0, at), line: row.name.slice(at + 1), q: undefined };
-  },
+  line: row => toSource(row.name),
+  thread: row => ({ view: "function", thread: row.name, in: undefined, q: undefined }),
 };
 
 async function namedRows(view, s, runs, event) {
   const byFunction = view === "function" || view === "inclusive";
-  const report = await (view === "inclusive" ? inclusive(runs, event) : selfCosts(view, runs, event));
+  const report = await (view === "inclusive" ? inclusive(runs, event) : view === "function" && s.thread ? ofThread(runs, event, s.thread) : selfCosts(view, runs, event));
   const known = byFunction ? await objects(runs, event, s.derived) : null;
   const named = row => byFunction ? functionOf(row.key, known) : { name: unescaped(row.key) };
   const rows = report.rows.map(row => ({ cost: row.cost, ...named(row) }));
@@ -35,8 +34,9 @@ function totalRow(view, s, runs, total, rows, kept) {
     // Inclusive costs count a cost in each function that it went through.
     if (view !== "inclusive") text += `, with ${grouped(sum(kept))} (${share(sum(kept), total)})`;
   }
-  const only = s.in && word === "function" ? element("span", { className: "chip" }, `in ${shown(s.in)} `,
-    anchor(link({ in: undefined }), "×", { title: "functions of all objects" })) : null;
+  const chip = (said, change, title) => element("span", { className: "chip" }, `in ${said} `, anchor(link(change), "×", { title }));
+  const only = [s.in && word === "function" ? chip(shown(s.in), { in: undefined }, "functions of all objects") : null,
+    s.thread && view === "function" ? chip(`thread ${shown(s.thread)}`, { thread: undefined }, "functions of all threads") : null];
   return element("tbody", null, element("tr", { className: "total" }, costCell(total),
     element("td", { className: "share" }, "100 %"), element("td", { className: "bar" }), element("td", null, text, only)));
 }
@@ -45,11 +45,11 @@ export async function report(view, s, runs, event) {
   const { total, rows } = await namedRows(view, s, runs, event);
   const byFunction = view === "function" || view === "inclusive";
   const kept = filtered(rows, row => byFunction ? `${row.object}:${row.name}` : row.name);
-  const top = fullBar(rows, total);
+  const top = fullBar(rows, total), short = byFunction ? briefs(rows.map(row => shown(row.name))) : null;
   const draw = row => {
     const made = element("tr", null, costCell(row.cost), shareCell(row.cost, total), barCell(row.cost, top),
-      byFunction ? functionCell(row) : nameCell(row.name));
-    return view in LEADS ? leading(made, LEADS[view](row)) : made;
+      byFunction ? functionCell(row, short) : nameCell(row.name));
+    return leading(made, LEADS[view](row));
   };
   const columns = [["cost", shown(event)], ["share", "share"], ["bar", ""], ["name", byFunction ? "function" : view]];
   const drawn = table(columns, totalRow(view, s, runs, total, rows, kept), rowsBody(kept, draw));

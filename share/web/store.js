@@ -4,12 +4,17 @@ import { bytesOf, labelled, linesOf, percent, shown, unescaped } from "./texts.j
 
 // Answers that were read, by their addresses: the page asks for each once.
 const known = new Map();
+// So many runs are read whole where nobody asked for it, and so many exports are kept.
+export const FEW = 4;
 
 export class Refusal extends Error {}
 
+// What profhouse_web tells itself stands below scripts/, all else below api/.
+const ITS_OWN = "scripts/";
+
 export async function ask(path, query, body) {
   const words = Object.entries(query ?? {}).filter(([, value]) => value !== undefined);
-  const address = "api/" + path + (words.length ? "?" + words.map(([name, value]) => `${name}=${percent(value)}`).join("&") : "");
+  const address = (path.startsWith(ITS_OWN) ? "" : "api/") + path + (words.length ? "?" + words.map(([name, value]) => `${name}=${percent(value)}`).join("&") : "");
   let response;
   try {
     response = await fetch(address, body ? { method: "POST", body } : {});
@@ -17,7 +22,11 @@ export async function ask(path, query, body) {
     throw new Refusal("The server does not answer.");
   }
   const text = bytesOf(await response.arrayBuffer());
-  if (!response.ok) throw new Refusal(shown(text.trim()) || `the server answers ${response.status}`);
+  if (!response.ok) {
+    const refusal = new Refusal(shown(text.trim()) || `the server answers ${response.status}`);
+    refusal.isUnknown = response.status === 404 || response.status === 405;
+    throw refusal;
+  }
   return text;
 }
 
@@ -29,6 +38,8 @@ function once(path, query, read) {
     if (known.size > 300) known.clear();
     const answer = ask(path, query).then(read);
     known.set(name, answer);
+    // (all costs of a run take much memory)
+    if (path === "csv") for (const it of [...known.keys()].filter(it => it.startsWith('["csv"')).slice(0, -FEW)) known.delete(it);
     answer.catch(() => known.delete(name));
   }
   return known.get(name);
@@ -88,6 +99,44 @@ export const folded = runs => once("folded", runs, text => text);
 export const csv = runs => once("csv", runs, readCsv);
 export const calls = (which, runs, event, object, name) =>
   once(which, { event, object, function: name, ...runs }, readCalls);
+
+// Whether profhouse_web tells what no report has, or the page is served by another program. That is seen once.
+let isTold = true;
+
+// What it tells, or null.
+async function told(what, query, read) {
+  if (!isTold) return null;
+  try {
+    return await once(ITS_OWN + what, query, read);
+  } catch (error) {
+    if (!(error instanceof Refusal) || !error.isUnknown || error.message.startsWith("refused: ")) throw error;
+    isTold = false;
+    return null;
+  }
+}
+
+// The lines in which calls are made: cost, count, line, file, and the function at their other end.
+const readCallLines = text => readRows(linesOf(text), /^(\d+) (\d+) (\d+) ([^\t]*)\t(.*)$/s)
+  .map(it => ({ cost: BigInt(it[1]), count: BigInt(it[2]), line: it[3], path: unescaped(it[4]), key: it[5] }));
+
+// Those of a function itself.
+const readLines = text => readRows(linesOf(text), /^(\d+) (\d+) (.*)$/s)
+  .map(it => ({ cost: BigInt(it[1]), count: 0n, line: it[2], path: unescaped(it[3]) }));
+
+export const callLines = (which, runs, event, object, name) => told(which, { event, object, function: name, ...runs }, readCallLines);
+export const lines = (runs, event, object, name) => told("lines", { event, object, function: name, ...runs }, readLines);
+
+// What functions cost in one thread, as a report has it.
+const readFunctions = text => {
+  const rows = readRows(linesOf(text), /^(\d+) (.*)$/s).map(it => ({ cost: BigInt(it[1]), key: it[2] }));
+  return { total: rows.reduce((sum, row) => sum + row.cost, 0n), rows };
+};
+export async function ofThread(runs, event, thread) {
+  const found = await told("functions", { event, thread, ...runs }, readFunctions);
+  if (!found) throw new Refusal("Only profhouse_web tells the functions of a thread.");
+  return found;
+}
+
 export const difference = (key, runs, less, event) =>
   once("subtract/" + key, { event, ...runs, less_run: less.run, less_group: less.group }, readDifference);
 

@@ -96,24 +96,64 @@ export const signOf = number => number > 0n ? "more" : number < 0n ? "fewer" : "
 export const many = (count, word) => `${marked(String(count))} ${word}${String(count) === "1" ? "" : "s"}`;
 
 // Names of operators have the signs that are brackets elsewhere.
-const WHOLE = /^(?:operator\s*(?:\(\)|\[\]|->\*?|<=>|<<=?|>>=?|[-+*\/%^&|~!=<>]=?)|\(anonymous namespace\))/;
+const BRACKET = /operator\s*(?:\(\)|\[\]|->\*?|<=>|<<=?|>>=?|[-+*\/%^&|~!=<>]=?)|\(anonymous namespace\)|[()<>]/g;
 
-// A name without what stands in its brackets. Where `put` is empty, the brackets are left out too.
-export function without(name, put) {
-  let text = "", depth = 0;
-  for (let at = 0; at < name.length; at++) {
-    const whole = (name[at] === "o" || name[at] === "(") && WHOLE.exec(name.slice(at, at + 24));
-    const it = whole ? whole[0] : name[at];
+// A name cut at its outermost brackets: what stands outside of them, and in turn what stands in them, with them.
+function piecesOf(name) {
+  const cuts = [0];
+  let depth = 0;
+  for (const { 0: it, index: at } of name.matchAll(BRACKET)) {
     // A name of Rust may begin with the type in brackets.
-    const opens = !whole && (it === "(" || it === "<") && at > 0;
-    const closes = !whole && depth > 0 && (it === ")" || it === ">") && name[at - 1] !== "-";
-    if (closes && --depth === 0) text += put;
-    if (depth === 0 && (put || !opens && !closes)) text += it;
-    if (opens) depth++;
-    at += it.length - 1;
+    const opens = (it === "(" || it === "<") && at > 0, closes = depth > 0 && (it === ")" || it === ">") && name[at - 1] !== "-";
+    if (opens && depth === 0) cuts.push(at);
+    depth += opens - closes;
+    if (closes && depth === 0) cuts.push(at + 1);
   }
-  return depth ? name : text;
+  return depth ? [name] : cuts.map((from, at) => name.slice(from, cuts[at + 1]));
 }
 
-// A long name in short, as std::map<…>::operator[](…).
-export const brief = name => name.length < 48 ? name : without(name, "…");
+// A name without what stands in its brackets: ns::Cache<int, long>::get(int) is ns::Cache::get.
+export const bare = name => piecesOf(name).filter((_, at) => at % 2 === 0).join("");
+
+// A name that is shorter is shown whole; and what of texts that differ.
+const LONG = 48, SHORT = 20, FEW = 4;
+
+function agree(texts) {
+  let at = 0;
+  while (at < texts[0].length && texts.every(it => it[at] === texts[0][at])) at++;
+  return at;
+}
+
+// Texts that differ, each without the front and the end in which all agree, where these are long. No word is cut.
+function apart(texts) {
+  const front = texts[0].slice(0, agree(texts)).replace(/[\p{L}\p{N}_]+$/u, ""), least = Math.min(...texts.map(it => it.length)) - front.length;
+  const back = Math.min(least, agree(texts.map(it => [...it].reverse().join(""))));
+  const end = texts[0].slice(texts[0].length - back).replace(/^[\p{L}\p{N}_]+/u, ""), isShort = texts.every(it => it.length <= SHORT);
+  const [first, last] = [front, end].map(it => isShort || it.length <= FEW ? it : "\u2026");
+  return texts.map(it => first + it.slice(front.length, it.length - end.length) + last);
+}
+
+// Long names in short, as std::map<…>::operator[](…), by the names; where some would then be alike, what differs is kept.
+// share/scripts/profhouse_names.py has the same rules.
+export function briefs(names) {
+  const alike = new Map(), found = new Map();
+  for (const name of new Set(names)) {
+    if (name.length < LONG) continue;
+    const pieces = piecesOf(name), outside = pieces.filter((_, at) => at % 2 === 0).join("\u2026");
+    if (!alike.has(outside)) alike.set(outside, []);
+    alike.get(outside).push(pieces);
+  }
+  for (const group of alike.values()) {
+    const shows = group.map(() => "");
+    group[0].forEach((_, place) => {
+      const inside = place % 2 ? [...new Set(group.map(it => it[place].slice(1, -1)))] : [];
+      const differ = inside.length > 1 ? apart(inside) : ["\u2026"], said = new Map(inside.map((it, at) => [it, differ[at]]));
+      group.forEach((pieces, at) => {
+        const it = pieces[place];
+        shows[at] += place % 2 === 0 || it.length === 2 ? it : it[0] + said.get(it.slice(1, -1)) + it.at(-1);
+      });
+    });
+    group.forEach((pieces, at) => found.set(pieces.join(""), shows[at]));
+  }
+  return found;
+}

@@ -211,8 +211,9 @@ class Browser:
     def press(self, key):
         """Presses a key: a sign, or one of KEYS."""
         words = {"key": key, "windowsVirtualKeyCode": KEYS.get(key, ord(key[0].upper()))}
-        if key not in KEYS:
-            words["text"] = key
+        # (a link is opened by the sign that Enter gives)
+        if key not in KEYS or key == "Enter":
+            words["text"] = key if key not in KEYS else "\r"
         self.call("Input.dispatchKeyEvent", type="keyDown", **words)
         self.call("Input.dispatchKeyEvent", type="keyUp", **{name: it for name, it in words.items() if name != "text"})
         self.settle()

@@ -91,6 +91,9 @@ def cases_of_commands(tried):
     tried.expect("profhouse-history", ran("profhouse-history", "trend", "--db", "s.db", "--event", "Ir", "--csv").out.splitlines()[1:], [
         f"1,100,,,0,+0.00,{tried.path('a.cg')}".encode()])
     tried.expect("profhouse-same-paths", ran("profhouse-same-paths", "/src=/x", given=PROFILE.encode()).out, PROFILE.replace("/src", "/x").encode())
+    for words, said in ((("profhouse-history", "jumps", "--db", "none.db", "--event", "Ir"), "there is no store none.db"),
+                        (("profhouse-web", "--db", "none.db"), "there is no store none.db"), (("profhouse-backup-store", "--db", "none.db", "x"), "there is no store none.db")):
+        tried.expect(f"{words[0]} complains by this name", ran(*words).err.startswith(f"{words[0]}: {said}".encode()), True)
     for words in (("profhouse-history", "trend"), ("profhouse-same-paths",), ("profhouse-web",)):
         help_of = ran(*words, "--help")
         tried.expect(f"{words} --help", (help_of.status, help_of.out.startswith(f"usage: {' '.join(words)} ".encode())), (0, True))

@@ -55,8 +55,8 @@ GREW_MARKDOWN = f"""**`Ir by function, with all that they call: run 8 (8.cg), le
 | change |  | before | after | function |
 |--:|--:|--:|--:|---|
 | +561 | +0.55 % | 100,581 | 101,142 | `total` |
-| +500 | +0.49 % | 100,400 | 100,900 | `{APP}:main` |
 | +500 | +125.00 % | 400 | 900 | `{APP}:{GET}` |
+| +500 | +0.49 % | 100,400 | 100,900 | `{APP}:main` |
 
 `2 differences more`
 """
@@ -215,9 +215,11 @@ def cases_of_jumps(tried, ask):
                                       "name": f"{APP}:{GET}", "calls": [f"called by {APP}:main: +500, +5 calls"]})
     tried.expect("some rows", ask("jumps", "--event", "Ir", "--group", "main", "--rows", "1").out.decode().splitlines()[-2:],
                  ["1 smaller jump not shown", "run 5 (5.cg)"])
-    tried.expect("with all that they call", found("function", "--more", "0.4%", "--inclusive"), [(5, 500, "main"), (5, 500, get), (8, 60, "late")])
-    rows = json.loads(ask("jumps", "--event", "Ir", "--group", "main", "--lines", "--json").out)
-    tried.expect("lines", [it["calls"] for it in rows], [[f"called by {APP}:main: +500, +5 calls", "at a.c:30: +500"], ["at l.c:4: +60"]])
+    tried.expect("with all that they call", found("function", "--more", "0.4%", "--inclusive"), [(5, 500, get), (5, 500, "main"), (8, 60, "late")])
+    ran = ask("jumps", "--event", "Ir", "--group", "main", "--lines", "--json")
+    tried.expect("lines of a server", ([it["calls"] for it in json.loads(ran.out)], ran.err), (
+        [[f"called by {APP}:main: +500, +5 calls", "at a.c:30: +500"], ["at l.c:4: +60"]],
+        b"profhouse_history: the lines of calls are not told: no server tells them, so they need --db D\n"))
     # Runs without the event are passed over: one that stands between two others is as if it were not there.
     tried.expect("runs without the event", found("function", "--more", "2%"), [(5, 500, get), (8, 60, "late")])
 
@@ -350,6 +352,112 @@ def cases_of_folders(tried):
         f"{'':40}called by app:main: +700, +5 calls", "  2      +1   +4.76 %      21     22  x.so:same", "run 2 (build2.cg)"])
 
 
+# Two builds: the second has three lines more at the head of both files, and calls `work` five times more in one line of two.
+# What costs more is `work` alone, of which `begin` and `all` are the callers' callers; and a call that is not counted.
+MOVED = ["""events: Ir
+event: Twice = 2 Ir
+ob=/opt/app
+fl=m.c
+fn=main
+{main} 100000
+cfi=w.c
+cfn=work
+calls=2 1
+{kept} 300
+cfi=w.c
+cfn=work
+calls={count} 1
+{grown} {cost}
+fn=all
+1 10
+cfn=begin
+calls=1 1
+2 {sum}
+fn=begin
+1 10
+cfn=main
+calls=0 1
+3 {sum}
+fl=w.c
+fn=work
+{same} 100
+{more} {self}
+""".format(**it) for it in (
+    {"main": 3, "kept": 10, "count": 1, "grown": 20, "cost": 200, "sum": 100500, "same": 5, "more": 6, "self": 400},
+    {"main": 6, "kept": 13, "count": 6, "grown": 23, "cost": 1200, "sum": 101500, "same": 8, "more": 9, "self": 1400})]
+LINES_TEXT = f"""jumps of Ir by function in 2 runs: more than 2%
+run  change             before   cost  function
+  2  +1,000  +200.00 %     500  1,500  /opt/app:work
+{'':41}called by /opt/app:main: +1,000, +5 calls
+{'':41}  in line m.c:23: +1,200, +6 calls
+{'':41}  in line m.c:20: -200, -1 call
+{'':41}  in line m.c:13: moved from 10
+{'':41}at w.c:9: +1,400
+{'':41}at w.c:8: moved from 5
+run 2 (moved2.cg)
+"""
+
+
+def cases_of_lines(tried):
+    """In which lines calls are made, what an edit only moved, and what costs more itself."""
+    for number, text in enumerate(MOVED, 1):
+        tried.write(f"moved{number}.cg", text)
+    tried.profhouse("import", "--db", "moved.db", "moved1.cg", "moved2.cg")
+
+    def ask(command, *words, event="Ir"):
+        return tried.script(NAME, command, "--db", "moved.db", "--event", event, *words)
+    tried.expect("jumps with lines", ask("jumps", "--lines"), (0, LINES_TEXT.encode(), b""))
+    found = json.loads(ask("jumps", "--lines", "--json").out)[0]["calls"]
+    tried.expect("as data", found, [it.strip() for it in LINES_TEXT.splitlines()[3:-1]])
+    found = json.loads(ask("jumps", "--lines", "--json", event="Twice").out)[0]["calls"]
+    tried.expect("lines of a derived event", found, ["called by /opt/app:main: +2,000, +5 calls", "in line m.c:23: +2,400, +6 calls", "in line m.c:20: -400, -1 call",
+                                                     "in line m.c:13: moved from 10", "at w.c:9: +2,800", "at w.c:8: moved from 5"])
+    tried.expect("the other way", json.loads(tried.script(NAME, "jumps", "--db", swapped(tried), "--event", "Ir", "--lines", "--json").out)[0]["calls"], [
+        "called by /opt/app:main: -1,000, -5 calls", "in line m.c:23: -1,200, -6 calls", "in line m.c:20: +200, +1 call", "in line m.c:10: moved from 13",
+        "at w.c:9: -1,400", "at w.c:5: moved from 8"])
+    # Each of these costs 1000 more with all that it calls.
+    names = [it[-1] for it in rows_of(ask("grew", "1", "2", "--inclusive", "--csv"))[1:]]
+    tried.expect("what costs more itself comes before who calls it", names, ["/opt/app:work", "/opt/app:all", "/opt/app:begin", "/opt/app:main"])
+    names = [it[-2] for it in rows_of(ask("jumps", "--inclusive", "--more", "0.1%", "--csv"))[1:]]
+    tried.expect("so do jumps", names, ["/opt/app:work", "/opt/app:all", "/opt/app:begin", "/opt/app:main"])
+    tried.expect("no call is recorded", ask("callers", "main").out.decode().splitlines()[1:], [
+        "   cost            calls  caller", "101,500  100.00 %      -  total", "101,500  100.00 %      -  /opt/app:begin", "-: no call is recorded"])
+    tried.expect("nobody calls", ask("callers", "all").out.decode().splitlines()[1:], ["cost    calls  caller", "   0        -  total", "-: no call is recorded"])
+    tried.expect("as data it is a number", rows_of(ask("callers", "main", "--csv"))[1:], [["101500", "100.00", "0", "/opt/app:begin"]])
+
+
+def swapped(tried):
+    """A store of the same runs in the other order."""
+    tried.profhouse("import", "--db", "swapped.db", "moved2.cg", "moved1.cg")
+    return "swapped.db"
+
+
+def cases_of_long_names(tried):
+    """Names that are longer than the terminal: where they would look alike, what differs is seen."""
+    string = "std::__cxx11::basic_string<char, std::char_traits<char> >"
+    names = [f"shop::Cache<{string}, {kind}>::get({string} const&)" for kind in ("int", "long")]
+    plain = [f"{'a' * 60}{kind}{'z' * 60}" for kind in ("_one_", "_two_")]
+    for number in (1, 2):
+        tried.write(f"long{number}.cg", "events: Ir\nfn=main\n1 1000\n" + "".join(f"cfn={it}\ncalls={number} 1\n2 {number * 100}\n" for it in names)
+                    + "".join(f"fn={it}\n3 {number * (100 - at)}\n" for at, it in enumerate([*names, *plain])))
+    tried.profhouse("import", "--db", "long.db", "long1.cg", "long2.cg")
+    words = ("jumps", "--db", "long.db", "--event", "Ir")
+    shown = in_a_terminal(tried, *words, columns=77)
+    tried.expect("the instances of a template", [it[38:].strip() for it in shown[2:6]], [
+        "???:shop::Cache<\u2026int>::get(\u2026)", "called by ???:main: +100, +1 call", "???:shop::Cache<\u2026long>::get(\u2026)", "called by ???:main: +100, +1 call"])
+    # Of 38 signs 12 are the front, 12 the end, and 12 the middle, of which 6 stand in front of the first difference.
+    tried.expect("names without brackets", [it[38:] for it in shown[6:8]], [
+        f"???:aaaaaaaa\u2026aaaaa_{kind}_zz\u2026zzzzzzzzzzzz" for kind in ("one", "two")])
+    tried.expect("lines that are longer than the terminal", [it for it in shown if len(it) > 77], [])
+    shown = in_a_terminal(tried, "callees", "--db", "long.db", "--event", "Ir", "--run", "1", "main", columns=60)
+    tried.expect("a name with its figures", [it.split("  ")[-1] for it in shown[3:5]], ["???:shop::Cache<\u2026int>::get(\u2026)", "???:shop::Cache<\u2026long>::get(\u2026)"])
+    whole = {f"???:{it}" for it in [*names, *plain]}
+    for form, read in (("--csv", lambda out: {it[6] for it in csv.reader(io.StringIO(out))}), ("--json", lambda out: {it["name"] for it in json.loads(out)}),
+                       ("--markdown", lambda out: {it.rpartition(" | ")[2].partition("<br>")[0].strip("` |") for it in out.splitlines()})):
+        tried.expect(f"{form} has whole names", whole - read("\n".join([*in_a_terminal(tried, *words, form, columns=40), ""])), set())
+    tried.expect("and so has a pipe", [it for it in whole if it not in tried.script(NAME, *words).out.decode()], [])
+
+
 def cases_of_labels(tried):
     """Which runs --where takes, and a table of benchmarks by builds."""
     for folder in ("again", "bench=sort commit=d4 branch=work"):
@@ -420,7 +528,8 @@ def cases_of_terminals(tried, address):
     tried.expect("bars of two names", [it[:22] for it in shown[-2:]], ["[1] ▁▁▁▁████  400 to 9", "[2] ▁▁▁▁▁▁▁▁  100,000 "])
     tried.expect("no line is longer than the terminal", [it for it in shown if len(it) > 60], [])
     shown = in_a_terminal(tried, "jumps", *where, columns=60)
-    tried.expect("a long name is cut", (shown[2], max(map(len, shown)) <= 66), (f"  5    +500  +125.00 %     400   900  {APP}:ns::Cache<int, …", True))
+    # 24 signs: without what stands in brackets it has 29, of which 8 and 15 are shown.
+    tried.expect("a long name is short", (shown[2], max(map(len, shown)) <= 66), ("  5    +500  +125.00 %     400   900  /opt/app\u2026ache<\u2026>::get(\u2026)", True))
 
 
 def cases(tried):
@@ -431,6 +540,8 @@ def cases(tried):
     cases_of_names(tried)
     cases_of_objects(tried)
     cases_of_folders(tried)
+    cases_of_lines(tried)
+    cases_of_long_names(tried)
     tried.expect("a store", tried.script(NAME, "trend", "--db", "s.db", "--event", "Ir", "--group", "main").out, TOTAL_TEXT.encode())
     tried.expect_refusal("no store", tried.script(NAME, "jumps", "--db", "none.db", "--event", "Ir"), b"there is no store none.db")
     tried.expect_refusal("neither store nor server", tried.script(NAME, "jumps", "--event", "Ir"), b"--db D or --api URL")
