@@ -86,9 +86,10 @@ function joined(now, before) {
 const sourceOf = (it, less) => ({ view: "source", file: it.path, line: it.line, q: undefined,
   ...(it.isGone && less?.run ? { run: less.run, group: undefined, all: undefined } : {}) });
 
-// The lines of the caller beside a call, in the order of the source. Of one line alone the cost is that of its row.
-function atLines(lines, less, write) {
-  const isOne = lines.length === 1, hasFiles = new Set(lines.map(it => it.file)).size > 1, box = element("div", { className: "at" });
+// The lines of the caller beside a call, in the order of the source, with their files where not all calls beside stand in
+// one. Of one line alone the cost is that of its row.
+function atLines(lines, less, write, hasFiles) {
+  const isOne = lines.length === 1, box = element("div", { className: "at" });
   const counted = count => count ? `, ${write(count)} call${size(count) === 1n ? "" : "s"}` : "";
   const said = it => it.from ? ` moved from ${it.from}` : isOne ? "" : ` ${write(it.cost)}${counted(it.count)}`;
   const one = (it, at) => [at ? "; " : "", anchor(link(sourceOf(it, less)), hasFiles ? `${shown(base(it.file))}:${it.line}` : `line ${it.line}`,
@@ -111,9 +112,10 @@ const countCell = (count, write, before) => element("td", { className: "count", 
 
 function callTable(title, event, now, before, less) {
   const rows = joined(now, before), top = greatest(rows), write = before ? signed : grouped, short = briefs(rows.map(row => shown(row.name)));
+  const hasFiles = new Set(rows.flatMap(row => row.lines.map(it => it.file))).size > 1;
   const draw = row => {
     const drawn = element("tr", null, before ? changeCell(row.cost) : costCell(row.cost), countCell(row.count, write, before),
-      functionCell(row, short, atLines(row.lines, less, write)));
+      functionCell(row, short, atLines(row.lines, less, write, hasFiles)));
     drawn.style.setProperty("--part", part(row.cost, top) + "%");
     if (!before) drawn.classList.add("filled");
     return leading(drawn, { fn: row.name, ob: row.ob, zero: row.cost ? undefined : "1" });
