@@ -1,7 +1,7 @@
 -- The command line that the program reads, as clap's definitions see it.
-use Rattle.std.specs.Prelude.{◌≡◌, true, pos, List, [], ◌∷◌, map, Some, codes}
+use Rattle.std.specs.Prelude.{◌≡◌, true, pos, List, [], ◌∷◌, ◌++◌, fold, map, Some, codes}
 use Rattle.clap.specs.Lexer.{usize_max}
-use Rattle.clap.specs.Words.{App, Rule, Text, new_app, new_rule, with_rule, with_subcommand}
+use Rattle.clap.specs.Words.{App, Rule, Text, new_app, new_rule, with_subcommand}
 use Rattle.clap.specs.Simple.{on_top}
 use Rattle.clap.specs.declared.builder.action.ArgAction.TheVariants.{SetTrue}
 use Rattle.clap.specs.declared.builder.value_parser.ValueParser.{ValueParser}
@@ -72,106 +72,57 @@ key keys = record (operand (codes "KEY")) { parser = Some keys }
 
 -- ---- subcommands
 
-abbrev pub over_database : Text → App
-over_database name = with_rule (new_app name) database
+-- the runs that are selected
+abbrev pub selection : List Rule
+selection = run_option (codes "run") ∷ option (codes "group") ∷ []
 
-abbrev pub over_group_and_run : Text → App
-over_group_and_run name = with_rule (with_rule (over_database name) (operand (codes "NAME"))) run_number
+-- a group and a run
+abbrev pub membership : List Rule
+membership = operand (codes "NAME") ∷ run_number ∷ []
 
-abbrev pub over_selection : Text → App
-over_selection name = with_rule (with_rule (over_database name) (run_option (codes "run"))) (option (codes "group"))
+-- the calls that have one side at a function
+abbrev pub calls : List Rule
+calls = database ∷ selection ++ event ∷ object ∷ operand (codes "FUNCTION") ∷ []
 
--- over an event of these runs
-abbrev pub over_event : Text → App
-over_event name = with_rule (over_selection name) event
+-- each subcommand with its arguments, in the order in which help lists them
+abbrev pub rows : ValueParser → List (Text × List Rule)
+rows keys =
+    (codes "total", operand (codes "FILE") ∷ [])
+    ∷ (codes "import", database ∷ flag (codes "folded") ∷ several (operand (codes "FILE")) ∷ [])
+    ∷ (codes "runs", database ∷ [])
+    ∷ (codes "by", database ∷ selection ++ event ∷ limit ∷ threshold ∷ key keys ∷ [])
+    ∷ (codes "inclusive", database ∷ selection ++ event ∷ [])
+    ∷ (codes "callers", calls)
+    ∷ (codes "callees", calls)
+    ∷ (codes "subtract", database ∷ selection ++ run_option (codes "less-run") ∷ option (codes "less-group") ∷ event ∷ key keys ∷ [])
+    ∷ (codes "verify", database ∷ selection)
+    ∷ (codes "annotate", database ∷ selection ++ event ∷ annotated ∷ operand (codes "SOURCE") ∷ [])
+    ∷ (codes "csv", database ∷ selection)
+    ∷ (codes "folded", database ∷ selection)
+    ∷ (codes "group", database ∷ flag (codes "drop") ∷ operand (codes "NAME") ∷ [])
+    ∷ (codes "join", database ∷ membership)
+    ∷ (codes "leave", database ∷ membership)
+    ∷ (codes "baseline", database ∷ membership)
+    ∷ (codes "groups", database ∷ [])
+    ∷ (codes "remove", database ∷ several run_number ∷ [])
+    ∷ (codes "serve", database ∷ port ∷ requests ∷ most_bytes ∷ flag (codes "log") ∷ [])
+    ∷ []
 
--- over some of the rows of these
-abbrev pub over_cut : Text → App
-over_cut name = with_rule (with_rule (over_event name) limit) threshold
-
--- over the calls that have one side at a function
-abbrev pub over_calls : Text → App
-over_calls name = with_rule (with_rule (over_event name) object) (operand (codes "FUNCTION"))
-
--- over two selections
-abbrev pub over_less : Text → App
-over_less name = with_rule (with_rule (over_selection name) (run_option (codes "less-run"))) (option (codes "less-group"))
-
--- over the requests that come at a port
-abbrev pub over_requests : Text → App
-over_requests name = with_rule (with_rule (with_rule (over_database name) port) requests) most_bytes
-
-abbrev pub total : App
-total = with_rule (new_app (codes "total")) (operand (codes "FILE"))
-
-abbrev pub import : App
-import = with_rule (with_rule (over_database (codes "import")) (flag (codes "folded"))) (several (operand (codes "FILE")))
-
-abbrev pub remove : App
-remove = with_rule (over_database (codes "remove")) (several run_number)
-
-abbrev pub group : App
-group = with_rule (with_rule (over_database (codes "group")) (flag (codes "drop"))) (operand (codes "NAME"))
-
-abbrev pub by : ValueParser → App
-by keys = with_rule (over_cut (codes "by")) (key keys)
-
-abbrev pub inclusive : App
-inclusive = over_event (codes "inclusive")
-
-abbrev pub subtract : ValueParser → App
-subtract keys = with_rule (with_rule (over_less (codes "subtract")) event) (key keys)
-
-abbrev pub verify : App
-verify = over_selection (codes "verify")
-
-abbrev pub annotate : App
-annotate = with_rule (with_rule (over_event (codes "annotate")) annotated) (operand (codes "SOURCE"))
-
-abbrev pub csv : App
-csv = over_selection (codes "csv")
-
-abbrev pub folded : App
-folded = over_selection (codes "folded")
-
-abbrev pub serve : App
-serve = with_rule (over_requests (codes "serve")) (flag (codes "log"))
+-- a subcommand with its arguments
+abbrev pub app_with : Text → List Rule → App
+app_with name rules = on_top (λ s. record s { rules = rules }) (new_app name)
 
 -- ---- the program
 
 abbrev pub program : App
 program = on_top (λ s. record s { has_version = true; subcommand_required = true }) (new_app (codes "profhouse"))
 
-abbrev pub with_files : App → App
-with_files a = with_subcommand (with_subcommand (with_subcommand a total.top) import.top) (over_database (codes "runs")).top
-
-abbrev pub with_members : App → App
-with_members a =
-    with_subcommand (with_subcommand (with_subcommand a group.top) (over_group_and_run (codes "join")).top)
-    (over_group_and_run (codes "leave")).top
-
-abbrev pub with_groups : App → App
-with_groups a =
-    with_subcommand (with_subcommand (with_subcommand a (over_group_and_run (codes "baseline")).top) (over_database (codes "groups")).top)
-    remove.top
-
-abbrev pub with_costs : ValueParser → App → App
-with_costs keys a = with_subcommand (with_subcommand a (by keys).top) inclusive.top
-
-abbrev pub with_calls : App → App
-with_calls a = with_subcommand (with_subcommand a (over_calls (codes "callers")).top) (over_calls (codes "callees")).top
-
-abbrev pub with_comparisons : ValueParser → App → App
-with_comparisons keys a = with_subcommand (with_subcommand a (subtract keys).top) verify.top
-
-abbrev pub with_exports : App → App
-with_exports a = with_subcommand (with_subcommand (with_subcommand a annotate.top) csv.top) folded.top
-
-abbrev pub with_reports : ValueParser → App → App
-with_reports keys a = with_exports (with_comparisons keys (with_calls (with_costs keys a)))
+-- a command with one more subcommand
+abbrev pub with_row : App → Text × List Rule → App
+with_row a row = with_subcommand a (app_with row.0 row.1).top
 
 abbrev pub command_line : ValueParser → App
-command_line keys = with_subcommand (with_groups (with_members (with_reports keys (with_files program)))) serve.top
+command_line keys = fold with_row program (rows keys)
 
 -- ---- the words of keys
 

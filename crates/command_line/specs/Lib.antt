@@ -1,2 +1,3 @@
-pub mod Plans
 pub mod Grammar
+pub mod Plans
+pub mod Table

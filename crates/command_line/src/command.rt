@@ -225,48 +225,6 @@ fn serve<'a>(db: &'a str, words: &ArgMatches<'a>) -> Option<Plan<'a>>
     })
 }
 
-/// The plan for an annotation or an export.
-fn export<'a>(name: &str, db: &'a str, words: &ArgMatches<'a>) -> Option<Plan<'a>>
-    requires { HasWord (rows_of (found_of words.now)) (codes "db") db.now }
-    ensures { IfSome result (IsPlanned name.now (rows_of (found_of words.now))) }
-{
-    match name {
-        "annotate" => annotate(db, words),
-        "csv" => csv(db, words),
-        "folded" => folded(db, words),
-        _ => calls(name, db, words),
-    }
-}
-
-/// The plan for a report.
-fn report<'a>(name: &str, db: &'a str, words: &ArgMatches<'a>) -> Option<Plan<'a>>
-    requires { HasWord (rows_of (found_of words.now)) (codes "db") db.now }
-    ensures { IfSome result (IsPlanned name.now (rows_of (found_of words.now))) }
-{
-    match name {
-        "by" => by(db, words),
-        "inclusive" => inclusive(db, words),
-        "subtract" => subtract(db, words),
-        "verify" => verify(db, words),
-        _ => export(name, db, words),
-    }
-}
-
-/// The plan for a subcommand that wants the database and has no list.
-fn without_list<'a>(name: &str, db: &'a str, words: &ArgMatches<'a>) -> Option<Plan<'a>>
-    requires { HasWord (rows_of (found_of words.now)) (codes "db") db.now }
-    ensures { IfSome result (IsPlanned name.now (rows_of (found_of words.now))) }
-{
-    match name {
-        "runs" => Some(Plan::Runs { db }),
-        "group" => group(db, words),
-        "groups" => Some(Plan::Groups { db }),
-        "join" | "leave" | "baseline" => member(name, db, words),
-        "serve" => serve(db, words),
-        _ => report(name, db, words),
-    }
-}
-
 /// The plan for a subcommand that wants the database.
 fn over_database<'a>(
     alloc: Global,
@@ -278,11 +236,25 @@ fn over_database<'a>(
     let Some(db) = word(words, "db") else {
         return Ok(None);
     };
-    match name {
-        "import" => import(alloc, db, words),
-        "remove" => remove(alloc, db, words),
-        _ => Ok(without_list(name, db, words)),
-    }
+    let plan = match name {
+        "import" => return import(alloc, db, words),
+        "remove" => return remove(alloc, db, words),
+        "runs" => Some(Plan::Runs { db }),
+        "group" => group(db, words),
+        "groups" => Some(Plan::Groups { db }),
+        "join" | "leave" | "baseline" => member(name, db, words),
+        "by" => by(db, words),
+        "inclusive" => inclusive(db, words),
+        "callers" | "callees" => calls(name, db, words),
+        "subtract" => subtract(db, words),
+        "verify" => verify(db, words),
+        "annotate" => annotate(db, words),
+        "csv" => csv(db, words),
+        "folded" => folded(db, words),
+        "serve" => serve(db, words),
+        _ => None,
+    };
+    Ok(plan)
 }
 
 /// The plan for a subcommand.

@@ -3,10 +3,12 @@
 
 // Makes a plan of the words.
 mod command;
-// The command line as `clap` has it.
+// What clap is told of the table of subcommands.
 mod grammar;
 // What the program is told to do.
 mod plans;
+// The subcommands and their arguments, as a table.
+mod subcommands;
 // Reads the options and operands of a subcommand (specs/Plans.antt).
 mod words;
 

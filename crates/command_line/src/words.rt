@@ -5,7 +5,7 @@ ghost use Rattle.command_line.specs.Plans.{IsByteCount, IsRequestCount, IsRunNum
 ghost use Rattle.command_line.specs.Plans.{HasWord, HasNumber, HasRun, HaveRuns, IsFlag, NamesBoth, SaysNumber};
 ghost use Rattle.command_line.specs.Plans.{HasSelection, HasSelectionBy, HasLess};
 
-use crate::grammar::{LAST_RUN, MAX_PERCENT, MOST_BYTES, MOST_REQUESTS};
+use crate::subcommands::{LAST_RUN, MAX_PERCENT, MOST_BYTES, MOST_REQUESTS};
 use cg_text::ListVec;
 use clap::ArgMatches;
 use cost_rows::Key;
