@@ -18,7 +18,7 @@ use store_paths::{Patience, TRIES, is_blank_in, is_migratable, is_no_file, optio
 
 /// What commands came to over a store that others may write.
 #[derive(Drop)]
-pub enum Beside {
+pub(crate) enum Beside {
     /// Their answers, those of one commit, were printed, with this status, or could not be.
     Done(io::Result<u8>),
     /// Others wrote while the store was read.
@@ -188,7 +188,7 @@ fn work_once<'a>(rt: &'a HostRuntime, path: &str, commands: &[WordsCommand<'a>])
 /// Runs commands over the store at a path beside others, if they only read: no lock is taken, and nothing is made or
 /// changed. Where others write meanwhile, it begins anew, as long as patience lasts. No guarantee: of the files at a path
 /// the checker knows nothing.
-pub fn work_beside<'a>(
+pub(crate) fn work_beside<'a>(
     rt: &'a HostRuntime,
     path: &str,
     commands: &[WordsCommand<'a>],
@@ -229,7 +229,7 @@ fn may_be_changed_at(rt: &HostRuntime, path: &str) -> bool {
 /// Refuses the store at a path that is not to be opened to be changed, for what it is: no lock is taken, and nothing is
 /// made or changed. The opening itself refuses what was not seen here: files that are not to be read beside others, or that
 /// others write. No guarantee: as `work_beside`.
-pub fn look_beside(rt: &HostRuntime, path: &str) -> Result<(), OpenError> {
+pub(crate) fn look_beside(rt: &HostRuntime, path: &str) -> Result<(), OpenError> {
     if is_no_file(path) || may_be_changed_at(rt, path) {
         return Ok(());
     }

@@ -84,7 +84,7 @@ pub(crate) fn close<D: Disk + Drop>(store: PageRuns<D>) {
 
 /// The store at a path, to be read from its pages, as `store_in_pages`. No guarantee: of the files at a path the
 /// checker knows nothing.
-pub fn pages_at(
+pub(crate) fn pages_at(
     rt: &HostRuntime,
     path: &str,
     patience: Patience,
@@ -119,7 +119,7 @@ fn keeping_pages_at(
 }
 
 /// The store at a path, to be changed by one command. No guarantee: as `keeping_pages_at`.
-pub fn pages_to_change_at(
+pub(crate) fn pages_to_change_at(
     rt: &HostRuntime,
     path: &str,
     patience: Patience,
@@ -128,7 +128,7 @@ pub fn pages_to_change_at(
 }
 
 /// The store at a path, to be served. No guarantee: as `keeping_pages_at`.
-pub fn pages_to_serve_at(
+pub(crate) fn pages_to_serve_at(
     rt: &HostRuntime,
     path: &str,
     patience: Patience,

@@ -1,23 +1,24 @@
-// What a plan says is done, over the files that it names.
+// What the words of a command line say is done, over the files that they name.
 ghost use Rattle.sessions.specs.Commands.{HasCommands};
 
-use command_line::Plan;
+use crate::beside::{Beside, look_beside, work_beside};
+use crate::reading::{
+    StoreInPages, pages_at, pages_to_change_at, pages_to_serve_at, serve_in_pages, work_in_pages,
+};
+use anyhow::Result;
+use command_line::{Plan, PlanError, plan};
 use file_reading::total_file;
 use http_service::Service;
 use prof_store::OpenError;
-use program_stores::{
-    Beside, StoreInPages, look_beside, pages_at, pages_to_change_at, pages_to_serve_at,
-    serve_in_pages, work_beside, work_in_pages,
-};
 use sessions::{WordsCommand, commands_of, print_total};
 use std::alloc::AllocError;
-use std::io;
 use std::process::ExitCode;
 use std::rt::HostRuntime;
+use std::{env, io};
 use store_paths::{Patience, error_line, look_at, make_missing_at};
 
 /// Prints the line of a refusal. No guarantee: of what is printed the checker knows nothing.
-pub(crate) fn print_refused<R: Print>(rt: &R, reason: &str) -> io::Result<ExitCode> {
+fn print_refused<R: Print>(rt: &R, reason: &str) -> io::Result<ExitCode> {
     println!(rt; "refused: {reason}")?;
     Ok(ExitCode::FAILURE)
 }
@@ -157,7 +158,7 @@ fn run_commands<'a>(rt: &'a HostRuntime, plan: Plan<'a>) -> io::Result<ExitCode>
 
 /// Does what a plan says, and prints what it came to. No guarantee: which files stand at the paths of a plan
 /// the checker does not know; `commands_of`, `total_read` and `work_in_pages` say what is made of them.
-pub(crate) fn run_plan<'a>(rt: &'a HostRuntime, plan: Plan<'a>) -> io::Result<ExitCode> {
+fn run_plan<'a>(rt: &'a HostRuntime, plan: Plan<'a>) -> io::Result<ExitCode> {
     match plan {
         Plan::Total { path } => {
             let status = print_total(&mut io::writer(rt), total_file(rt, path))?;
@@ -181,4 +182,35 @@ pub(crate) fn run_plan<'a>(rt: &'a HostRuntime, plan: Plan<'a>) -> io::Result<Ex
         ),
         plan => run_commands(rt, plan),
     }
+}
+
+/// Prints why words are no plan. No guarantee: of what is printed the checker knows nothing; `plan` says which end comes of
+/// which words.
+fn print_unplanned(rt: &HostRuntime, end: PlanError) -> io::Result<ExitCode> {
+    match end {
+        PlanError::Memory => return print_refused(rt, "out of memory"),
+        PlanError::RunAndGroup => eprintln!(rt; "usage: --run and --group exclude each other")?,
+        PlanError::LessRunAndLessGroup => {
+            eprintln!(rt; "usage: --less-run and --less-group exclude each other")?
+        }
+        PlanError::Clap(error) => {
+            error.print(rt)?;
+            return Ok(ExitCode::from(error.exit_code() as u8));
+        }
+    }
+    Ok(ExitCode::from(2))
+}
+
+/// Does what the words of a command line say, of which the first is the program's name. No guarantee: as `run_plan`.
+fn run_words(rt: &HostRuntime, words: &[String]) -> io::Result<ExitCode> {
+    match plan(rt.alloc(), words) {
+        Ok(plan) => run_plan(rt, plan),
+        Err(end) => print_unplanned(rt, end),
+    }
+}
+
+/// Does what the words that the program was started with say. No guarantee: as `run_plan`.
+pub fn run(rt: &HostRuntime) -> Result<ExitCode> {
+    let words: Vec<String> = env::args(rt)?.collect(rt.alloc())?;
+    Ok(run_words(rt, words.as_slice())?)
 }
