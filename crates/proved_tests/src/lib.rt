@@ -1,4 +1,5 @@
-//! Tests of what no command line of the program reaches, over the public calls of the other crates.
+//! The tests of what no command line of the program reaches. Their bodies stand in libraries, since a program takes several
+//! times as long to prove.
 #![tactic(auto)]
 
 // A store by SQL of ample size.
@@ -7,9 +8,6 @@ mod ample;
 // Rows out of form in a store by SQL.
 #[cfg(test)]
 mod forms;
-// A file whose reads are given by hand.
-#[cfg(test)]
-mod given;
 // Imports into a warehouse with small limits.
 #[cfg(test)]
 mod imports;
@@ -19,15 +17,18 @@ mod library;
 // What takes lines may refuse one; then each later piece is refused.
 #[cfg(test)]
 mod lines;
+// A store in pages of which one allocation is refused.
+#[cfg(test)]
+mod page_memory;
+// A machine that stops at each change of the files of a store in pages.
+#[cfg(test)]
+mod page_stops;
 // A list of commands of which one allocation is refused.
 #[cfg(test)]
 mod refused;
 // A machine that stops while a store is made or migrated by SQL.
 #[cfg(test)]
 mod stops;
-// A store in memory whose rows are written by hand.
-#[cfg(test)]
-mod stores;
 // Walks over the cells and the calls of a run.
 #[cfg(test)]
 mod walks;

@@ -195,17 +195,14 @@ fn all_stops(alloc: Global, stops: Stops) -> Result<(), Fail> {
     Ok(())
 }
 
-#[test]
-fn both_files_stop(rt: HostRuntime) -> Result<(), Fail> {
-    all_stops(rt.alloc(), Stops::Both)
+pub fn both_files_stop(alloc: Global) -> Result<(), Fail> {
+    all_stops(alloc, Stops::Both)
 }
 
-#[test]
-fn the_log_stops(rt: HostRuntime) -> Result<(), Fail> {
-    all_stops(rt.alloc(), Stops::Log)
+pub fn the_log_stops(alloc: Global) -> Result<(), Fail> {
+    all_stops(alloc, Stops::Log)
 }
 
-#[test]
-fn the_database_file_stops(rt: HostRuntime) -> Result<(), Fail> {
-    all_stops(rt.alloc(), Stops::Database)
+pub fn the_database_file_stops(alloc: Global) -> Result<(), Fail> {
+    all_stops(alloc, Stops::Database)
 }

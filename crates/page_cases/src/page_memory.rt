@@ -79,9 +79,7 @@ fn made_again(alloc: Global) -> Result<PageRuns<Stopping>, &'static str> {
     }
 }
 
-#[test]
-fn memory_refused_to_change_pages(rt: HostRuntime) -> Result<(), Fail> {
-    let alloc = rt.alloc();
+pub fn memory_refused_to_change_pages(alloc: Global) -> Result<(), Fail> {
     let mut first = made_again(alloc)?;
     let mut second = made_again(alloc)?;
     change_both(&mut first, &mut second, alloc)

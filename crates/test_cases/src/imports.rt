@@ -1,0 +1,135 @@
+// Imports into a warehouse of small limits.
+use crate::given::Given;
+use crate::holding::holds;
+use crate::stores::empty_runs;
+use prof_store::StoreError;
+use sql_runs::SqlRuns;
+use sqlite::MemStore;
+use std::alloc::Global;
+use std::test::Fail;
+use warehouse::{Answer, Command, Kind, Limits, Refusal, Source, Warehouse};
+
+/// A file of 15 bytes.
+const SMALL: &[u8] = b"events: Ir\n1 1\n";
+
+/// An answer in a few words.
+fn word(answer: &Answer) -> &'static str {
+    match answer {
+        Answer::Run(1) => "run 1",
+        Answer::Run(2) => "run 2",
+        Answer::Held(1) => "held 1",
+        Answer::Held(2) => "held 2",
+        Answer::Done => "done",
+        Answer::Refused(Refusal::Store) => "store failed",
+        Answer::Refused(Refusal::ReadFault) => "read failed",
+        Answer::Refused(Refusal::TooLong) => "too long",
+        Answer::Refused(Refusal::Full) => "full",
+        Answer::Refused(Refusal::NumbersSpent) => "run numbers spent",
+        Answer::Refused(Refusal::File(_, 2)) => "fault of line 2",
+        Answer::Refused(Refusal::Overflow(_)) => "overflow",
+        _ => "another answer",
+    }
+}
+
+/// An empty warehouse that imports files of so many bytes, two runs, one group, and three numbers.
+fn small_house(alloc: Global, bytes: u16) -> Result<Warehouse<SqlRuns<MemStore>>, StoreError> {
+    let limits = Limits {
+        bytes: u64::from(bytes),
+        runs: 2,
+        groups: 1,
+        numbers: 3,
+    };
+    Ok(Warehouse::new(empty_runs(alloc, false)?, limits))
+}
+
+/// What the import of a source is answered.
+fn import<R: Source + Drop>(
+    house: &mut Warehouse<SqlRuns<MemStore>>,
+    alloc: Global,
+    mut source: R,
+) -> &'static str {
+    word(&house.import(alloc, Kind::Callgrind, b"a", &mut source))
+}
+
+/// What the making of a group is answered.
+fn make_group(
+    house: &mut Warehouse<SqlRuns<MemStore>>,
+    alloc: Global,
+    name: &[u8],
+) -> &'static str {
+    word(&house.apply::<Given>(alloc, Command::MakeGroup(name)))
+}
+
+/// Whether run 1 is removed, a group is made, and a second one finds no room.
+fn removes_and_makes_one_group(house: &mut Warehouse<SqlRuns<MemStore>>, alloc: Global) -> bool {
+    let removed = word(&house.apply::<Given>(alloc, Command::Remove(1)));
+    let first = make_group(house, alloc, b"g");
+    let second = make_group(house, alloc, b"h");
+    removed == "done" && first == "done" && second == "full"
+}
+
+pub fn a_file_has_at_most_so_many_bytes(alloc: Global) -> Result<(), Fail> {
+    for (bytes, most, sound, wanted) in [
+        (15, 1, u64::MAX, "run 1"),
+        (15, 100, u64::MAX, "run 1"),
+        (14, 1, u64::MAX, "too long"),
+        (14, 100, u64::MAX, "too long"),
+        (15, 1, 15, "read failed"),
+        (14, 1, 15, "too long"),
+        (14, 1, 14, "read failed"),
+    ] {
+        let mut house = small_house(alloc, bytes)?;
+        let source = Given {
+            left: SMALL,
+            most,
+            sound,
+        };
+        holds(
+            import(&mut house, alloc, source) == wanted,
+            "another answer",
+        )?;
+    }
+    Ok(())
+}
+
+/// A fault and a sum that does not fit are found before a lack of room; what is held is no new run.
+pub fn limits_made_small(alloc: Global) -> Result<(), Fail> {
+    let mut house = small_house(alloc, 1000)?;
+    for (bytes, wanted) in [
+        (SMALL, "run 1"),
+        (b"events: Dr\n", "run 2"),
+        (b"events: Bc\n", "full"),
+        (SMALL, "held 1"),
+        (b"events: Ir\n1 2 3\n", "fault of line 2"),
+        (b"events: Bc\n1 9223372036854775807\n2 1\n", "overflow"),
+    ] {
+        holds(
+            import(&mut house, alloc, Given::sound(bytes, 100)) == wanted,
+            "another answer",
+        )?;
+    }
+    holds(
+        removes_and_makes_one_group(&mut house, alloc),
+        "one group is not made, or a second one is",
+    )?;
+    for (bytes, wanted) in [
+        (b"events: Bc\n", "run numbers spent"),
+        (b"events: Dr\n", "held 2"),
+    ] {
+        holds(
+            import(&mut house, alloc, Given::sound(bytes, 100)) == wanted,
+            "another answer",
+        )?;
+    }
+    Ok(())
+}
+
+/// An import would end the transaction that another began.
+pub fn nothing_is_put_within_a_transaction(alloc: Global) -> Result<(), Fail> {
+    let mut house = Warehouse::new(empty_runs(alloc, true)?, Limits::standard());
+    let answer = import(&mut house, alloc, Given::sound(SMALL, 100));
+    holds(answer == "store failed", "it is imported")?;
+    let runs = house.into_store().store.runs(alloc)?;
+    holds(runs.is_empty(), "a run stands")?;
+    Ok(())
+}

@@ -1,0 +1,27 @@
+//! What no command line of the program reaches, over the public calls of the other crates: the bodies of proved tests.
+//! They stand in a library, since a program takes several times as long to prove. No guarantees: what is wanted fails
+//! where it is not so.
+#![tactic(auto)]
+
+// A store by SQL of ample size.
+pub mod ample;
+// Rows out of form in a store by SQL.
+pub mod forms;
+// A file whose reads are given by hand.
+mod given;
+// What has to hold in a test.
+mod holding;
+// Imports into a warehouse with small limits.
+pub mod imports;
+// Public calls that the program does not make.
+pub mod library;
+// What takes lines may refuse one; then each later piece is refused.
+pub mod lines;
+// A list of commands of which one allocation is refused.
+pub mod refused;
+// A machine that stops while a store is made or migrated by SQL.
+pub mod stops;
+// A store in memory whose rows are written by hand.
+mod stores;
+// Walks over the cells and the calls of a run.
+pub mod walks;

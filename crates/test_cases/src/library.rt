@@ -1,0 +1,175 @@
+// Public calls that a library's user has and the program does not make.
+use crate::given::Given;
+use crate::holding::holds;
+use crate::stores::empty_runs;
+use callgrind_reader::Reader;
+use cg_formulas::{FileHead, Flat};
+use cg_text::{ListVec, fields};
+use cost_reports::verify;
+use cost_rows::{CallEdge, Cell, FileRows};
+use shared_texts::SharedText;
+use std::alloc::{AllocError, Global};
+use std::test::Fail;
+use warehouse::{Answer, Command, Kind, Limits, Query, Refusal, Selection, Warehouse};
+
+pub fn fields_stand_between_blanks() -> Result<(), Fail> {
+    let mut found = fields(b" ab\t\tc  d ");
+    for wanted in [b"ab".as_slice(), b"c", b"d"] {
+        holds(found.next() == Some(wanted), "another field")?;
+    }
+    holds(found.next().is_none(), "one field more")?;
+    Ok(())
+}
+
+/// The value of an event where `Ir` costs 3 and `L1m` costs 4, and `Est = Ir + 10 L1m`.
+fn value(alloc: Global, name: &[u8]) -> Result<Option<u128>, AllocError> {
+    let mut events = ListVec::new(alloc);
+    events.push(ListVec::from_vec(b"Ir".to_vec(alloc)?))?;
+    events.push(ListVec::from_vec(b"L1m".to_vec(alloc)?))?;
+    let mut derived = ListVec::new(alloc);
+    let numbers = ListVec::from_vec(vec![in alloc; 1, 10]?);
+    derived.push((ListVec::from_vec(b"Est".to_vec(alloc)?), numbers))?;
+    let flat = Flat::of(events, derived).ok_or(AllocError)?;
+    let costs = [3, 4];
+    if flat.events.len() != costs.len() {
+        return Err(AllocError);
+    }
+    Ok(flat.value(name, &costs))
+}
+
+pub fn derived_events_have_a_value(alloc: Global) -> Result<(), Fail> {
+    holds(value(alloc, b"L1m")? == Some(4), "another cost of L1m")?;
+    holds(value(alloc, b"Est")? == Some(43), "another value of Est")?;
+    holds(value(alloc, b"Dr")? == None, "a value of no event")?;
+    Ok(())
+}
+
+/// A cost line of 20 and 1, and three calls that cost 400 of the first event.
+const CALLS: &[u8] = b"events: Ir Dr\nfl=a.c\nfn=main\n16 20 1\ncfn=g\ncalls=3 50\n17 400\n";
+
+fn rows_of(alloc: Global, text: &'static [u8]) -> Result<FileRows, Fail> {
+    let mut reader = Reader::new(alloc)?;
+    let mut rows = FileRows::new(alloc);
+    if text.len() as u64 > reader.room() {
+        return Err(Fail::from(AllocError));
+    }
+    reader.feed(text, &mut rows)?;
+    if reader.finish(&mut rows).is_err() {
+        return Err(Fail::from(AllocError));
+    }
+    Ok(rows)
+}
+
+/// Whether a row is the cost of an event at line 16 of `main`.
+fn is_cost(row: Option<Cell<&[u8]>>, event: usize, cost: u128) -> bool {
+    let Some(row) = row else {
+        return false;
+    };
+    row.object == b"???".as_slice()
+        && row.file == b"a.c".as_slice()
+        && row.function == b"main".as_slice()
+        && row.line == 16
+        && row.event == event
+        && row.cost == cost
+}
+
+/// Whether a row is the three calls from line 17 of `main` to `g`.
+fn is_call(row: Option<CallEdge<&[u8], &[u128]>>) -> bool {
+    let Some(row) = row else {
+        return false;
+    };
+    row.function == b"main".as_slice()
+        && row.line == 17
+        && row.called_object == b"???".as_slice()
+        && row.called_file == b"a.c".as_slice()
+        && row.called_function == b"g".as_slice()
+        && row.count == 3
+        && row.costs == [400].as_slice()
+}
+
+pub fn rows_of_a_file_have_their_names(alloc: Global) -> Result<(), Fail> {
+    let rows = rows_of(alloc, CALLS)?;
+    let mut cells = rows.cells();
+    holds(is_cost(cells.next(), 0, 20), "another first cost")?;
+    holds(is_cost(cells.next(), 1, 1), "another second cost")?;
+    holds(cells.next().is_none(), "one cost more")?;
+    let mut calls = rows.calls();
+    holds(is_call(calls.next()), "another call")?;
+    holds(calls.next().is_none(), "one call more")?;
+    Ok(())
+}
+
+/// A file is imported, a source annotated, the run put into a group and removed.
+fn commands<'a>(alloc: Global) -> Result<Vec<Command<Given, &'a [u8]>>, AllocError> {
+    let mut commands = Vec::new(alloc);
+    commands.push(Command::Import {
+        kind: Kind::Callgrind,
+        label: b"a".as_slice(),
+        source: Given::sound(b"events: Ir\nfl=a.c\nfn=f\n0 1\n1 2\n9 4\n", 7),
+    })?;
+    commands.push(Command::Annotate {
+        selection: Selection::All,
+        event: b"Ir".as_slice(),
+        file: b"a.c".as_slice(),
+        source: Given::sound(b"int x;", 7),
+    })?;
+    commands.push(Command::MakeGroup(b"g".as_slice()))?;
+    commands.push(Command::Remove(2))?;
+    commands.push(Command::Join(b"g".as_slice(), 1))?;
+    commands.push(Command::Ask(Query::Groups))?;
+    Ok(commands)
+}
+
+/// Whether a text is this one.
+fn is_text(text: &SharedText, wanted: &[u8]) -> bool {
+    match text.as_slice() {
+        Some(bytes) => bytes == wanted,
+        None => false,
+    }
+}
+
+/// Whether an answer is the one that is wanted of the command at a place of the list.
+fn is_wanted(at: usize, answer: &Answer) -> bool {
+    match (at, answer) {
+        (0, Answer::Run(1)) => true,
+        (1, Answer::Text(text)) => {
+            is_text(
+                text,
+                b"annotate a.c Ir\n7 total\n2 1: int x;\n5 (outside)\n",
+            )
+        }
+        (2, Answer::Done) | (4, Answer::Done) => true,
+        (3, Answer::Refused(Refusal::NoSuchRun)) => true,
+        (5, Answer::Text(text)) => is_text(text, b"g - 1\n"),
+        _ => false,
+    }
+}
+
+pub fn a_list_of_commands_is_answered(alloc: Global) -> Result<(), Fail> {
+    let mut house = Warehouse::new(empty_runs(alloc, false)?, Limits::standard());
+    let answers = house.run(alloc, commands(alloc)?)?;
+    holds(answers.len() == 6, "another count of answers")?;
+    for (at, answer) in answers.iter().enumerate() {
+        holds(is_wanted(at, answer), "another answer")?;
+    }
+    Ok(())
+}
+
+/// An event behind the last sum has none, and its name may have any byte.
+pub fn sums_may_be_fewer_than_events(alloc: Global) -> Result<(), Fail> {
+    let mut events = ListVec::new(alloc);
+    events.push(ListVec::from_vec(b"Ir".to_vec(alloc)?))?;
+    events.push(ListVec::from_vec(b"D\nr".to_vec(alloc)?))?;
+    let derived = Flat::of(ListVec::new(alloc), ListVec::new(alloc)).ok_or(AllocError)?;
+    let head = FileHead {
+        events,
+        derived,
+        stated: None,
+    };
+    let text = verify(alloc, 3, &head, &[9])?.text(alloc, 1000)?;
+    holds(
+        text.as_slice() == b"3 Ir 9 none none\n3 D\\x0ar 0 none none\n".as_slice(),
+        "another text",
+    )?;
+    Ok(())
+}

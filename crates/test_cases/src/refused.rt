@@ -1,0 +1,122 @@
+// A list of commands of which one allocation is refused, by tests/by_hand/refuse_each: what meets it is refused as
+// out of memory and changes nothing, the others are answered, and the next call is whole.
+use crate::given::Given;
+use crate::holding::holds;
+use crate::stores::empty_runs;
+use cost_rows::Key;
+use report_texts::Cut;
+use sql_runs::SqlRuns;
+use sqlite::MemStore;
+use std::alloc::{AllocError, Global};
+use std::test::Fail;
+use warehouse::{Answer, Command, Kind, Limits, Query, Refusal, Selection, Warehouse};
+
+/// The manual's example of calls.
+pub(crate) const CALLS: &[u8] =
+    b"# callgrind format\nevents: Instructions\n\nfl=file1.c\nfn=main\n16 20\ncfn=func1\ncalls=1 50\n16 400\ncfi=file2.c\ncfn=func2\ncalls=3 20\n16 400\n\nfn=func1\n51 100\ncfi=file2.c\ncfn=func2\ncalls=2 20\n51 300\n\nfl=file2.c\nfn=func2\n20 700\n";
+
+/// What its functions cost.
+const COSTS: &[u8] =
+    b"by function Instructions\n820 100.00% total\n700 85.36% ???:func2\n100 12.19% ???:func1\n20 2.43% ???:main\n0 0.00% (rest)\n";
+
+/// It is imported, a group is made, the run joins it, and the groups and the costs are asked for.
+fn commands<'a>(alloc: Global) -> Result<Vec<Command<Given, &'a [u8]>>, AllocError> {
+    let mut commands = Vec::new(alloc);
+    commands.push(Command::Import {
+        kind: Kind::Callgrind,
+        label: b"a".as_slice(),
+        source: Given::sound(CALLS, 100),
+    })?;
+    commands.push(Command::MakeGroup(b"g".as_slice()))?;
+    commands.push(Command::Join(b"g".as_slice(), 1))?;
+    commands.push(Command::Ask(Query::Groups))?;
+    commands.push(Command::Ask(Query::By {
+        selection: Selection::All,
+        key: Key::Function,
+        event: b"Instructions".as_slice(),
+        cut: Cut {
+            limit: None,
+            threshold: 100,
+        },
+    }))?;
+    Ok(commands)
+}
+
+/// A letter for a text: of the group with the run, without it, of no group, or of the costs.
+fn letter_of_text(text: &[u8]) -> u8 {
+    if text == b"g - 1\n".as_slice() {
+        b'1'
+    } else if text == b"g - -\n".as_slice() {
+        b'-'
+    } else if text.is_empty() {
+        b'0'
+    } else if text == COSTS {
+        b'c'
+    } else {
+        b'?'
+    }
+}
+
+/// A letter for an answer.
+fn letter(answer: &Answer) -> u8 {
+    match answer {
+        Answer::Run(1) => b'r',
+        Answer::Held(1) => b'h',
+        Answer::Done => b'd',
+        Answer::Text(text) => match text.as_slice() {
+            Some(bytes) => letter_of_text(bytes),
+            None => b'?',
+        },
+        Answer::Refused(Refusal::Memory) => b'm',
+        Answer::Refused(Refusal::GroupTaken) => b't',
+        Answer::Refused(Refusal::NoSuchRun) => b'n',
+        Answer::Refused(Refusal::NoSuchGroup) => b'o',
+        Answer::Refused(Refusal::NoSuchEvent) => b'e',
+        _ => b'?',
+    }
+}
+
+/// The letters of the answers to the list, or none where the list was refused.
+fn ran(alloc: Global, house: &mut Warehouse<SqlRuns<MemStore>>) -> Result<[u8; 5], AllocError> {
+    let answers = house.run(alloc, commands(alloc)?)?;
+    let mut letters = [b'?'; 5];
+    for (place, answer) in letters.iter_mut().zip(answers.iter()) {
+        *place = letter(answer);
+    }
+    Ok(letters)
+}
+
+/// What the list is answered when it is run again, by what it was answered first.
+fn wanted(first: Result<[u8; 5], AllocError>) -> [u8; 5] {
+    let Ok(first) = first else {
+        return *b"rdd1c";
+    };
+    for (letters, again) in [
+        (*b"rdd1c", *b"htd1c"),
+        (*b"mdn-e", *b"rtd1c"),
+        (*b"rmo0c", *b"hdd1c"),
+        (*b"rdm-c", *b"htd1c"),
+        (*b"rddmc", *b"htd1c"),
+        (*b"rdd1m", *b"htd1c"),
+    ] {
+        if first == letters {
+            return again;
+        }
+    }
+    *b"-----"
+}
+
+pub fn memory_refused_to_run(alloc: Global) -> Result<(), Fail> {
+    let store = match empty_runs(alloc, false) {
+        Ok(store) => store,
+        Err(_) => empty_runs(alloc, false)?,
+    };
+    let mut house = Warehouse::new(store, Limits::standard());
+    let first = ran(alloc, &mut house);
+    let second = match ran(alloc, &mut house) {
+        Ok(letters) if !letters.contains(&b'm') => letters,
+        _ => ran(alloc, &mut house)?,
+    };
+    holds(second == wanted(first), "another answer behind a refusal")?;
+    Ok(())
+}

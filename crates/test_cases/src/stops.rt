@@ -1,0 +1,284 @@
+// A machine that stops at a change of the files of a store that is made, or migrated, by SQL: of the log, of the database
+// file, or of both. Opened again, they tell what they told before or with it, and where it was answered as done, with it.
+use crate::given::Given;
+use crate::refused::CALLS;
+use cost_rows::Key;
+use prof_store::Store;
+use report_texts::Cut;
+use sql_runs::SqlRuns;
+use sqlite::{Connection, FileStore, Files, Options};
+use std::alloc::{AllocError, Global};
+use std::test::Fail;
+use stopping_disks::{Image, Left, Meter, Stopping, Stops, files_of};
+use warehouse::{Answer, Command, Kind, Limits, Query, Selection, Warehouse};
+
+/// Makes a store, imports a file into it, or opens one of version 1.
+#[derive(Clone, Copy)]
+enum Step {
+    Create,
+    Import,
+    Open,
+}
+
+/// What makes a store of version 1 of one of version 2 whose costs are of thread 0.
+const BACK: [&str; 4] = [
+    "CREATE TABLE cell (run INTEGER NOT NULL REFERENCES run ON DELETE CASCADE, ob INTEGER NOT NULL, fl INTEGER NOT NULL, fn INTEGER NOT NULL, line INTEGER NOT NULL, event INTEGER NOT NULL, cost INTEGER NOT NULL, PRIMARY KEY (run, ob, fl, fn, line, event)) STRICT",
+    "INSERT INTO cell SELECT run, ob, fl, fn, line, event, cost FROM thread_cell",
+    "DROP TABLE thread_cell",
+    "UPDATE meta SET schema = 1",
+];
+
+/// A database over such files.
+type Held = Connection<FileStore<Stopping>>;
+
+/// Opens the database that files hold, or hands them back.
+fn opened(alloc: Global, files: Files<Stopping>) -> Result<Held, Files<Stopping>> {
+    if !files.may_be_used() {
+        return Err(files);
+    }
+    match Connection::open_files(alloc, files, Options::new(7)) {
+        Ok(conn) => Ok(conn),
+        Err((_, left)) => Err(left.into_files()),
+    }
+}
+
+/// Copies the log into the database file, if that can be, and hands both back.
+fn closed(conn: Held) -> Files<Stopping> {
+    match conn.close_files() {
+        Ok(files) => files,
+        Err((_, store)) => store.close(),
+    }
+}
+
+fn house_over(alloc: Global, conn: Held) -> Result<Warehouse<SqlRuns<FileStore<Stopping>>>, Held> {
+    match Store::open(alloc, conn) {
+        Ok(store) => Ok(Warehouse::new(SqlRuns { store }, Limits::standard())),
+        Err((_, conn)) => Err(conn),
+    }
+}
+
+/// Whether the import of a file is answered as done.
+fn is_imported(alloc: Global, house: &mut Warehouse<SqlRuns<FileStore<Stopping>>>) -> bool {
+    let mut source = Given::sound(CALLS, 4096);
+    let answer = house.import(alloc, Kind::Callgrind, b"a", &mut source);
+    matches!(answer, Answer::Run(_))
+}
+
+/// Imports a file into a store: whether that is done.
+fn imported(alloc: Global, store: Store<FileStore<Stopping>>) -> (bool, Held) {
+    let mut house = Warehouse::new(SqlRuns { store }, Limits::standard());
+    let is_done = is_imported(alloc, &mut house);
+    (is_done, house.into_store().into_connection())
+}
+
+/// Does a step over a database: whether it is done.
+fn done(alloc: Global, conn: Held, step: Step) -> (bool, Held) {
+    let opened = match step {
+        Step::Create => Store::create(alloc, conn),
+        _ => Store::open(alloc, conn),
+    };
+    match opened {
+        Ok(store) => match step {
+            Step::Import => imported(alloc, store),
+            _ => (true, store.into_connection()),
+        },
+        Err((_, conn)) => (false, conn),
+    }
+}
+
+/// What a step comes to over files that stop.
+#[derive(Drop)]
+struct Ended {
+    is_done: bool,
+    has_stopped: bool,
+    left: Left,
+}
+
+/// Does a step over files that stop after so many changes.
+fn ended_by(
+    alloc: Global,
+    image: &Image,
+    step: Step,
+    stops: Stops,
+    changes: u64,
+) -> Result<Ended, AllocError> {
+    let meter = Meter::new(alloc, stops)?;
+    meter.allow(changes);
+    let files = files_of(alloc, &image.log, &image.database, 0, &meter)?;
+    let (is_done, files) = match opened(alloc, files) {
+        Ok(conn) => {
+            let (is_done, conn) = done(alloc, conn, step);
+            (is_done, closed(conn))
+        }
+        Err(files) => (false, files),
+    };
+    Ok(Ended {
+        is_done,
+        has_stopped: meter.is_spent(),
+        left: Left::of(files),
+    })
+}
+
+/// What all runs cost by function.
+fn by_function<'a>(event: &'a [u8]) -> Query<&'a [u8]> {
+    Query::By {
+        selection: Selection::All,
+        key: Key::Function,
+        event,
+        cut: Cut {
+            limit: None,
+            threshold: 100,
+        },
+    }
+}
+
+/// Adds what a question is answered: a text behind a 1, or a 2 for a refusal.
+fn ask(
+    alloc: Global,
+    house: &mut Warehouse<SqlRuns<FileStore<Stopping>>>,
+    query: Query<&[u8]>,
+    told: &mut Vec<u8>,
+) -> Result<(), AllocError> {
+    match house.apply::<Given>(alloc, Command::Ask(query)) {
+        Answer::Text(text) => {
+            told.push(1)?;
+            told.extend_from_slice(text.to_list(alloc)?.as_slice())
+        }
+        _ => Ok(told.push(2)?),
+    }
+}
+
+/// What files tell of runs, groups, sums and costs; nothing where they hold no store, and then one can be made.
+fn told_by(alloc: Global, log: &[u8], database: &[u8]) -> Result<Vec<u8>, Fail> {
+    let mut told = Vec::new(alloc);
+    let meter = Meter::new(alloc, Stops::Both)?;
+    let files = files_of(alloc, log, database, 0, &meter)?;
+    let conn = match opened(alloc, files) {
+        Ok(conn) => conn,
+        Err(_) => Err("the files cannot be opened")?,
+    };
+    let mut house = match house_over(alloc, conn) {
+        Ok(house) => house,
+        Err(conn) => match Store::create(alloc, conn) {
+            Ok(_) => return Ok(told),
+            Err(_) => Err("a store that is half made")?,
+        },
+    };
+    let house = &mut house;
+    ask(alloc, house, Query::Runs, &mut told)?;
+    ask(alloc, house, Query::Groups, &mut told)?;
+    ask(alloc, house, Query::Verify(Selection::All), &mut told)?;
+    ask(alloc, house, by_function(b"Instructions"), &mut told)?;
+    Ok(told)
+}
+
+/// Whether what a stop left tells what it has to, by what was told before the step and is told with it.
+fn is_right(alloc: Global, ended: &Ended, before: &[u8], after: &[u8]) -> Result<bool, Fail> {
+    for (log, database, is_another) in ended.left.images() {
+        if is_another {
+            let told = told_by(alloc, log, database)?;
+            let told = told.as_slice();
+            if told != after && (ended.is_done || told != before) {
+                return Ok(false);
+            }
+        }
+    }
+    Ok(true)
+}
+
+/// Stops at each change of a step in turn: how many there were before it ended without a stop.
+fn stops_of(
+    alloc: Global,
+    image: &Image,
+    step: Step,
+    stops: Stops,
+    before: &[u8],
+    after: &[u8],
+) -> Result<u64, Fail> {
+    for changes in 0..10000u64 {
+        let ended = ended_by(alloc, image, step, stops, changes)?;
+        if !is_right(alloc, &ended, before, after)? {
+            Err("neither before nor with it")?;
+        }
+        if !ended.has_stopped {
+            return Ok(changes);
+        }
+    }
+    Err("no end")?
+}
+
+/// Does a step without a stop: what it leaves.
+fn done_on(alloc: Global, image: &Image, step: Step) -> Result<Image, Fail> {
+    let Ended {
+        is_done,
+        has_stopped: _,
+        left,
+    } = ended_by(alloc, image, step, Stops::Both, u64::MAX)?;
+    if !is_done {
+        Err("the step is not done")?;
+    }
+    Ok(left.into_written())
+}
+
+/// Stops at each change of the making of a store: what it leaves.
+fn making_stops(alloc: Global, stops: Stops) -> Result<Image, Fail> {
+    let empty = Image::empty(alloc);
+    let made = done_on(alloc, &empty, Step::Create)?;
+    let before = told_by(alloc, &empty.log, &empty.database)?;
+    let after = told_by(alloc, &made.log, &made.database)?;
+    let (before, after) = (before.as_slice(), after.as_slice());
+    if before == after {
+        Err("that it is made does not show")?;
+    }
+    if stops_of(alloc, &empty, Step::Create, stops, before, after)? < 2 {
+        Err("it changes no file")?;
+    }
+    Ok(made)
+}
+
+/// The files of a store of version 1 with what a store holds.
+fn as_first(alloc: Global, image: &Image) -> Result<Image, Fail> {
+    let meter = Meter::new(alloc, Stops::Both)?;
+    let files = files_of(alloc, &image.log, &image.database, 0, &meter)?;
+    let mut conn = match opened(alloc, files) {
+        Ok(conn) => conn,
+        Err(_) => Err("the files cannot be opened")?,
+    };
+    for text in BACK {
+        if conn.execute(text, &[]).is_err() {
+            Err("no store of version 1")?;
+        }
+    }
+    Ok(Left::of(closed(conn)).into_written())
+}
+
+/// Stops at each change of the opening of a store of version 1, which tells what it told before.
+fn opening_stops(alloc: Global, image: &Image, stops: Stops) -> Result<(), Fail> {
+    let told = told_by(alloc, &image.log, &image.database)?;
+    let first = as_first(alloc, image)?;
+    done_on(alloc, &first, Step::Open)?;
+    let told = told.as_slice();
+    if stops_of(alloc, &first, Step::Open, stops, told, told)? < 2 {
+        Err("it changes no file")?;
+    }
+    Ok(())
+}
+
+/// Stops at each change of the making of a store, and of the opening of one of version 1.
+fn all_stops(alloc: Global, stops: Stops) -> Result<(), Fail> {
+    let made = making_stops(alloc, stops)?;
+    let filled = done_on(alloc, &made, Step::Import)?;
+    opening_stops(alloc, &filled, stops)
+}
+
+pub fn the_log_stops(alloc: Global) -> Result<(), Fail> {
+    all_stops(alloc, Stops::Log)
+}
+
+pub fn the_database_file_stops(alloc: Global) -> Result<(), Fail> {
+    all_stops(alloc, Stops::Database)
+}
+
+pub fn both_files_stop(alloc: Global) -> Result<(), Fail> {
+    all_stops(alloc, Stops::Both)
+}
