@@ -1,17 +1,16 @@
 // Reads the store at a path beside others, who may write it meanwhile, and says why another is refused.
 ghost use Rattle.read_only_disks.specs.Untouched.{IsUntouched};
 
-use crate::reading::{LONGEST_LOG, PAGES_TO_READ, Unread, close, store_in_pages, work_in_pages};
+use crate::reading::{LONGEST_LOG, PAGES_TO_READ, Unread, close, store_in_pages};
 use files_to_read::{FileOf, IfStands, Standing, Unopened, open_to_look, open_to_read};
 use page_runs::PageRuns;
 use prof_store::OpenError;
 use read_only_disks::{ReadOnly, read_only};
 use requests::Command;
-use sessions::WordsCommand;
+use sessions::{WordsCommand, work_over};
 use sqlite_disk::{Disk, Files as DiskFiles, Start, Unknown};
 use sqlite_pager::Options;
 use std::alloc::Global;
-use std::io::Write;
 use std::rt::HostRuntime;
 use std::{fs, io};
 use store_paths::{Patience, TRIES, is_blank_in, is_migratable, is_no_file, options_for};
@@ -147,17 +146,8 @@ fn store_beside(rt: &HostRuntime, path: &str) -> Result<(StoreBeside, Standing),
     }
 }
 
-/// What a work came to, whose answer was printed here if what it had read stood still.
-fn printed<'a, W: Write + Drop>(out: IfStands<'a, W>, came_to: io::Result<u8>) -> Beside {
-    let mut out = out;
-    if out.has_stood() {
-        Beside::Done(came_to)
-    } else {
-        Beside::Moved
-    }
-}
-
-/// Runs commands that only read over a store that was read beside others.
+/// Runs commands that only read over a store that was read beside others. What they came to was printed if what they had
+/// read stood still.
 fn work_over_pages<'a, D: Disk + Drop>(
     rt: &'a HostRuntime,
     store: PageRuns<D>,
@@ -165,13 +155,17 @@ fn work_over_pages<'a, D: Disk + Drop>(
     commands: &[WordsCommand<'a>],
 ) -> Beside {
     let out = IfStands::new(io::writer(rt), rt, standing);
-    let (came_to, out, store) = work_in_pages(rt, out, store, commands);
+    let (came_to, mut out, store) = work_over(rt, out, store, commands);
     close(store);
-    printed(out, came_to)
+    if out.has_stood() {
+        Beside::Done(came_to)
+    } else {
+        Beside::Moved
+    }
 }
 
 /// Runs commands that only read over the store at a path, once. A file that is read without a log is locked for that.
-/// `work_in_pages` says what is answered over what was read, `Standing` when that is what one commit left.
+/// `work_over` says what is answered over what was read, `Standing` when that is what one commit left.
 fn work_once<'a>(rt: &'a HostRuntime, path: &str, commands: &[WordsCommand<'a>]) -> Beside {
     match store_beside(rt, path) {
         Ok((store, standing)) if standing.is_read_with_log() => {

@@ -4,10 +4,10 @@
 
 // Reads the store at a path beside others, who may write it meanwhile.
 mod beside;
-// Works over a store in the pages of its file.
+// Opens the store in files, or at a path, by its pages.
 mod reading;
 // What the words of a command line say is done.
 mod running;
 
-pub use reading::{StoreInPages, Unread, serve_in_pages, store_in_pages, work_in_pages};
+pub use reading::{StoreInPages, Unread, store_in_pages};
 pub use running::run;

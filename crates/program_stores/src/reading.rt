@@ -1,4 +1,4 @@
-// Works over a store in the pages of its file, and a server of it.
+// Opens the store in files, or at a path, by its pages.
 ghost use Rattle.std.specs.Prelude.{IfOk};
 ghost use Rattle.sqlite_wal.specs.Files.{seen_image};
 ghost use Rattle.read_only_disks.specs.Untouched.{IsUntouched};
@@ -7,25 +7,18 @@ ghost use Rattle.plain_tables.specs.Tables.{Tables};
 ghost use Rattle.run_stores.specs.Calls.{IsFaithful};
 ghost use Rattle.page_runs.specs.States.{HoldsIn, state_of};
 ghost use Rattle.histories.specs.History.{History};
-ghost use Rattle.http_service.specs.Served.{CameToServed};
 ghost use Rattle.histories.specs.Representation.{TablesRepresent};
 ghost use Rattle.store_histories.specs.Answered.{RepresentsHistory};
-ghost use Rattle.sessions.specs.Sessions.{Wants};
-ghost use Rattle.sessions.specs.Works.{CameTo};
 
-use http_service::{Service, serve_over};
 use page_runs::PageRuns;
 use plain_tables::StoreError;
 use prof_store::OpenError;
 use read_only_disks::{ReadOnly, read_only};
-use sessions::{WordsCommand, work_over};
 use sqlite::File;
 use sqlite_disk::{Disk, Files as DiskFiles, Start, Unknown};
 use sqlite_pager::Options;
 use std::alloc::Global;
-use std::io;
-use std::io::Write;
-use std::rt::{Files, HostRuntime};
+use std::rt::HostRuntime;
 use store_paths::{Patience, files_at, options_for};
 
 /// How many pages are kept in memory where a store is only read: each is read once, and more would only have to be made.
@@ -34,9 +27,6 @@ pub(crate) const PAGES_TO_READ: usize = 100;
 /// How many are kept where a store is changed or served, 2 MB, and as many again of those that were written: rows are
 /// appended, but names and their index are written where they fall.
 const PAGES_TO_CHANGE: usize = 500;
-
-/// How many cells of small runs a server keeps in memory, 4 MB.
-const CELLS_TO_KEEP: usize = 65_536;
 
 /// The longest log that is read whole into memory, in bytes: 64 MiB. A longer one is recovered in its file.
 pub(crate) const LONGEST_LOG: usize = 0x400_0000;
@@ -102,7 +92,7 @@ pub(crate) fn pages_at(
 /// `WrongSchema` where another program has put an index or a trigger on its tables; `Memory`; `Store` where its files are not
 /// plainly a store of this version, or cannot be opened so: their database says why. No guarantee: as `pages_at`;
 /// `PageRuns::open` says what the store represents.
-fn keeping_pages_at(
+pub(crate) fn pages_to_change_at(
     rt: &HostRuntime,
     path: &str,
     patience: Patience,
@@ -116,46 +106,4 @@ fn keeping_pages_at(
     } else {
         Err(OpenError::WrongSchema)
     }
-}
-
-/// The store at a path, to be changed by one command. No guarantee: as `keeping_pages_at`.
-pub(crate) fn pages_to_change_at(
-    rt: &HostRuntime,
-    path: &str,
-    patience: Patience,
-) -> Result<StoreInPages, OpenError> {
-    keeping_pages_at(rt, path, patience, 0)
-}
-
-/// The store at a path, to be served. No guarantee: as `keeping_pages_at`.
-pub(crate) fn pages_to_serve_at(
-    rt: &HostRuntime,
-    path: &str,
-    patience: Patience,
-) -> Result<StoreInPages, OpenError> {
-    keeping_pages_at(rt, path, patience, CELLS_TO_KEEP)
-}
-
-/// Runs commands over a store in the pages of its file.
-pub fn work_in_pages<'a, R: Files + AllocGlobal, W: Write + Drop, D: Disk + Drop>(
-    rt: &'a R,
-    out: W,
-    store: PageRuns<D>,
-    commands: &[WordsCommand<'a>],
-) -> (io::Result<u8>, W, PageRuns<D>)
-    ensures { IsFaithful state_of result.2
-        → CameTo state_of W.contents (Wants R.File.remaining commands.now) result.0 out result.1 store result.2 }
-{
-    work_over(rt, out, store, commands)
-}
-
-/// Serves a store in the pages of its file.
-pub fn serve_in_pages<D: Disk + Drop>(
-    rt: &HostRuntime,
-    store: PageRuns<D>,
-    service: Service,
-) -> (io::Result<u8>, PageRuns<D>)
-    ensures { IsFaithful state_of result.1 → CameToServed state_of service.requests store result.1 }
-{
-    serve_over(rt, store, service)
 }
