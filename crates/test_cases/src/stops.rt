@@ -5,11 +5,13 @@ use crate::refused::CALLS;
 use cost_rows::Key;
 use prof_store::Store;
 use report_texts::Cut;
+use run_stores::RunStore;
 use sql_runs::SqlRuns;
-use sqlite::{Connection, FileStore, Files, Options};
+use sqlite::{Connection, FileStore, Options};
+use sqlite_disk::{Disk, Files};
 use std::alloc::{AllocError, Global};
 use std::test::Fail;
-use stopping_disks::{Image, Left, Meter, Stopping, Stops, files_of};
+use stopping_disks::{Image, Left, Meter, Stops, files_of};
 use warehouse::{Answer, Command, Kind, Limits, Query, Selection, Warehouse};
 
 /// Makes a store, imports a file into it, or opens one of version 1.
@@ -28,11 +30,14 @@ const BACK: [&str; 4] = [
     "UPDATE meta SET schema = 1",
 ];
 
-/// A database over such files.
-type Held = Connection<FileStore<Stopping>>;
+// What is done to a store is written over any, and what to a database over any files: at the type of these each function
+// takes minutes to prove.
 
 /// Opens the database that files hold, or hands them back.
-fn opened(alloc: Global, files: Files<Stopping>) -> Result<Held, Files<Stopping>> {
+fn opened<D: Disk + Drop>(
+    alloc: Global,
+    files: Files<D>,
+) -> Result<Connection<FileStore<D>>, Files<D>> {
     if !files.may_be_used() {
         return Err(files);
     }
@@ -43,43 +48,43 @@ fn opened(alloc: Global, files: Files<Stopping>) -> Result<Held, Files<Stopping>
 }
 
 /// Copies the log into the database file, if that can be, and hands both back.
-fn closed(conn: Held) -> Files<Stopping> {
+fn closed<D: Disk + Drop>(conn: Connection<FileStore<D>>) -> Files<D> {
     match conn.close_files() {
         Ok(files) => files,
         Err((_, store)) => store.close(),
     }
 }
 
-fn house_over(alloc: Global, conn: Held) -> Result<Warehouse<SqlRuns<FileStore<Stopping>>>, Held> {
-    match Store::open(alloc, conn) {
-        Ok(store) => Ok(Warehouse::new(SqlRuns { store }, Limits::standard())),
-        Err((_, conn)) => Err(conn),
-    }
-}
-
-/// Whether the import of a file is answered as done.
-fn is_imported(alloc: Global, house: &mut Warehouse<SqlRuns<FileStore<Stopping>>>) -> bool {
+/// Imports a file into a store: whether that is answered as done.
+fn imported<S: RunStore>(alloc: Global, store: S) -> (bool, S) {
+    let mut house = Warehouse::new(store, Limits::standard());
     let mut source = Given::sound(CALLS, 4096);
     let answer = house.import(alloc, Kind::Callgrind, b"a", &mut source);
-    matches!(answer, Answer::Run(_))
+    (matches!(answer, Answer::Run(_)), house.into_store())
 }
 
-/// Imports a file into a store: whether that is done.
-fn imported(alloc: Global, store: Store<FileStore<Stopping>>) -> (bool, Held) {
-    let mut house = Warehouse::new(SqlRuns { store }, Limits::standard());
-    let is_done = is_imported(alloc, &mut house);
-    (is_done, house.into_store().into_connection())
+/// The same over a database.
+fn imported_in<D: Disk + Drop>(
+    alloc: Global,
+    store: Store<FileStore<D>>,
+) -> (bool, Connection<FileStore<D>>) {
+    let (is_done, runs) = imported(alloc, SqlRuns { store });
+    (is_done, runs.into_connection())
 }
 
 /// Does a step over a database: whether it is done.
-fn done(alloc: Global, conn: Held, step: Step) -> (bool, Held) {
+fn done<D: Disk + Drop>(
+    alloc: Global,
+    conn: Connection<FileStore<D>>,
+    step: Step,
+) -> (bool, Connection<FileStore<D>>) {
     let opened = match step {
         Step::Create => Store::create(alloc, conn),
         _ => Store::open(alloc, conn),
     };
     match opened {
         Ok(store) => match step {
-            Step::Import => imported(alloc, store),
+            Step::Import => imported_in(alloc, store),
             _ => (true, store.into_connection()),
         },
         Err((_, conn)) => (false, conn),
@@ -133,9 +138,9 @@ fn by_function<'a>(event: &'a [u8]) -> Query<&'a [u8]> {
 }
 
 /// Adds what a question is answered: a text behind a 1, or a 2 for a refusal.
-fn ask(
+fn ask<S: RunStore>(
     alloc: Global,
-    house: &mut Warehouse<SqlRuns<FileStore<Stopping>>>,
+    house: &mut Warehouse<S>,
     query: Query<&[u8]>,
     told: &mut Vec<u8>,
 ) -> Result<(), AllocError> {
@@ -148,28 +153,45 @@ fn ask(
     }
 }
 
-/// What files tell of runs, groups, sums and costs; nothing where they hold no store, and then one can be made.
-fn told_by(alloc: Global, log: &[u8], database: &[u8]) -> Result<Vec<u8>, Fail> {
+/// What a warehouse tells of runs, groups, sums and costs.
+fn told_of<S: RunStore>(alloc: Global, house: &mut Warehouse<S>) -> Result<Vec<u8>, AllocError> {
     let mut told = Vec::new(alloc);
-    let meter = Meter::new(alloc, Stops::Both)?;
-    let files = files_of(alloc, log, database, 0, &meter)?;
-    let conn = match opened(alloc, files) {
-        Ok(conn) => conn,
-        Err(_) => Err("the files cannot be opened")?,
-    };
-    let mut house = match house_over(alloc, conn) {
-        Ok(house) => house,
-        Err(conn) => match Store::create(alloc, conn) {
-            Ok(_) => return Ok(told),
-            Err(_) => Err("a store that is half made")?,
-        },
-    };
-    let house = &mut house;
     ask(alloc, house, Query::Runs, &mut told)?;
     ask(alloc, house, Query::Groups, &mut told)?;
     ask(alloc, house, Query::Verify(Selection::All), &mut told)?;
     ask(alloc, house, by_function(b"Instructions"), &mut told)?;
     Ok(told)
+}
+
+/// The same of a store, which is handed back.
+fn told_over<S: RunStore>(alloc: Global, store: S) -> (Result<Vec<u8>, AllocError>, S) {
+    let mut house = Warehouse::new(store, Limits::standard());
+    let told = told_of(alloc, &mut house);
+    (told, house.into_store())
+}
+
+/// The same of the store in a database; nothing where there is none, and then one can be made.
+fn told_in<D: Disk + Drop>(alloc: Global, conn: Connection<FileStore<D>>) -> Result<Vec<u8>, Fail> {
+    match Store::open(alloc, conn) {
+        Ok(store) => {
+            let (told, _runs) = told_over(alloc, SqlRuns { store });
+            Ok(told?)
+        }
+        Err((_, conn)) => match Store::create(alloc, conn) {
+            Ok(_) => Ok(Vec::new(alloc)),
+            Err(_) => Err("a store that is half made")?,
+        },
+    }
+}
+
+/// The same of files.
+fn told_by(alloc: Global, log: &[u8], database: &[u8]) -> Result<Vec<u8>, Fail> {
+    let meter = Meter::new(alloc, Stops::Both)?;
+    let files = files_of(alloc, log, database, 0, &meter)?;
+    match opened(alloc, files) {
+        Ok(conn) => told_in(alloc, conn),
+        Err(_) => Err("the files cannot be opened")?,
+    }
 }
 
 /// Whether what a stop left tells what it has to, by what was told before the step and is told with it.
