@@ -4,7 +4,7 @@ use crate::stores::{Held, answered, empty, execute};
 use cost_rows::Key;
 use report_texts::Cut;
 use sqlite::params;
-use std::alloc::{AllocError, Global};
+use std::alloc::Global;
 use std::test::Fail;
 use warehouse::{Answer, Command, Query, Selection};
 
@@ -124,35 +124,25 @@ fn inclusive<'a>() -> Query<&'a [u8]> {
 }
 
 /// Questions, each with how many lines its answer has.
-type Questions<'a> = Vec<(Query<&'a [u8]>, usize)>;
-
-/// Adds those for lists and sums.
-fn push_lists(questions: &mut Questions<'_>) -> Result<(), AllocError> {
-    questions.push((Query::Runs, 301))?;
-    questions.push((Query::Groups, 1))?;
-    questions.push((Query::Verify(Selection::All), 301))?;
-    questions.push((Query::Verify(group()), 300))?;
-    questions.push((Query::Csv(Selection::All), 302))?;
-    questions.push((Query::Folded(Selection::All), 600))?;
-    Ok(())
-}
-
-/// Adds those for reports.
-fn push_reports(questions: &mut Questions<'_>) -> Result<(), AllocError> {
-    questions.push((by_function(Selection::All), 303))?;
-    questions.push((by_function(group()), 303))?;
-    questions.push((by_function(Selection::Run(7)), 4))?;
-    questions.push((callers(), 302))?;
-    questions.push((inclusive(), 302))?;
-    Ok(())
+fn questions<'a>() -> [(Query<&'a [u8]>, usize); 11] {
+    [
+        (Query::Runs, 301),
+        (Query::Groups, 1),
+        (Query::Verify(Selection::All), 301),
+        (Query::Verify(group()), 300),
+        (Query::Csv(Selection::All), 302),
+        (Query::Folded(Selection::All), 600),
+        (by_function(Selection::All), 303),
+        (by_function(group()), 303),
+        (by_function(Selection::Run(7)), 4),
+        (callers(), 302),
+        (inclusive(), 302),
+    ]
 }
 
 pub fn many_runs_and_rows_are_asked(alloc: Global) -> Result<(), Fail> {
     let mut conn = ample(alloc)?;
-    let mut questions = Vec::new(alloc);
-    push_lists(&mut questions)?;
-    push_reports(&mut questions)?;
-    for (query, lines) in questions {
+    for (query, lines) in questions() {
         let (answer, left) = answered(alloc, conn, Command::Ask(query))?;
         conn = left;
         let Answer::Text(text) = answer else {

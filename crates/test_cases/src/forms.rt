@@ -191,11 +191,17 @@ fn command_of<'a>(asked: Asked) -> Command<Given, &'a [u8]> {
     })
 }
 
+/// A store with one run more.
+fn imported(alloc: Global, conn: Held, kind: Kind, bytes: &'static [u8]) -> Result<Held, Fail> {
+    let (_, conn) = answered(alloc, conn, import(kind, bytes))?;
+    Ok(conn)
+}
+
 /// A store with two runs and a group.
 fn two_runs(alloc: Global) -> Result<Held, Fail> {
     let conn = empty(alloc, false)?.into_connection();
-    let (_, conn) = answered(alloc, conn, import(Kind::Callgrind, CALLS))?;
-    let (_, mut conn) = answered(alloc, conn, import(Kind::Folded, STACKS))?;
+    let conn = imported(alloc, conn, Kind::Callgrind, CALLS)?;
+    let mut conn = imported(alloc, conn, Kind::Folded, STACKS)?;
     execute(&mut conn, "INSERT INTO grp VALUES ('g', 2)")?;
     Ok(conn)
 }

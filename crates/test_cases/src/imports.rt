@@ -3,6 +3,7 @@ use crate::given::Given;
 use crate::holding::holds;
 use crate::stores::empty_runs;
 use prof_store::StoreError;
+use run_stores::RunStore;
 use sql_runs::SqlRuns;
 use sqlite::MemStore;
 use std::alloc::Global;
@@ -43,8 +44,8 @@ fn small_house(alloc: Global, bytes: u16) -> Result<Warehouse<SqlRuns<MemStore>>
 }
 
 /// What the import of a source is answered.
-fn import<R: Source + Drop>(
-    house: &mut Warehouse<SqlRuns<MemStore>>,
+fn import<S: RunStore, R: Source + Drop>(
+    house: &mut Warehouse<S>,
     alloc: Global,
     mut source: R,
 ) -> &'static str {
@@ -52,16 +53,12 @@ fn import<R: Source + Drop>(
 }
 
 /// What the making of a group is answered.
-fn make_group(
-    house: &mut Warehouse<SqlRuns<MemStore>>,
-    alloc: Global,
-    name: &[u8],
-) -> &'static str {
+fn make_group<S: RunStore>(house: &mut Warehouse<S>, alloc: Global, name: &[u8]) -> &'static str {
     word(&house.apply::<Given>(alloc, Command::MakeGroup(name)))
 }
 
 /// Whether run 1 is removed, a group is made, and a second one finds no room.
-fn removes_and_makes_one_group(house: &mut Warehouse<SqlRuns<MemStore>>, alloc: Global) -> bool {
+fn removes_and_makes_one_group<S: RunStore>(house: &mut Warehouse<S>, alloc: Global) -> bool {
     let removed = word(&house.apply::<Given>(alloc, Command::Remove(1)));
     let first = make_group(house, alloc, b"g");
     let second = make_group(house, alloc, b"h");
@@ -124,12 +121,20 @@ pub fn limits_made_small(alloc: Global) -> Result<(), Fail> {
     Ok(())
 }
 
+/// Whether an import into a store is refused, and leaves no run.
+fn is_refused<S: RunStore>(alloc: Global, store: S) -> (Result<bool, StoreError>, S) {
+    let mut house = Warehouse::new(store, Limits::standard());
+    let answer = import(&mut house, alloc, Given::sound(SMALL, 100));
+    let mut store = house.into_store();
+    let is_refused = match store.run_numbers(alloc) {
+        Ok(numbers) => Ok(answer == "store failed" && numbers.is_empty()),
+        Err(end) => Err(end),
+    };
+    (is_refused, store)
+}
+
 /// An import would end the transaction that another began.
 pub fn nothing_is_put_within_a_transaction(alloc: Global) -> Result<(), Fail> {
-    let mut house = Warehouse::new(empty_runs(alloc, true)?, Limits::standard());
-    let answer = import(&mut house, alloc, Given::sound(SMALL, 100));
-    holds(answer == "store failed", "it is imported")?;
-    let runs = house.into_store().store.runs(alloc)?;
-    holds(runs.is_empty(), "a run stands")?;
-    Ok(())
+    let (is_refused, _store) = is_refused(alloc, empty_runs(alloc, true)?);
+    holds(is_refused?, "it is imported, or a run stands")
 }

@@ -7,6 +7,7 @@ use cg_formulas::{FileHead, Flat};
 use cg_text::{ListVec, fields};
 use cost_reports::verify;
 use cost_rows::{CallEdge, Cell, FileRows};
+use run_stores::RunStore;
 use shared_texts::SharedText;
 use std::alloc::{AllocError, Global};
 use std::test::Fail;
@@ -145,14 +146,19 @@ fn is_wanted(at: usize, answer: &Answer) -> bool {
     }
 }
 
+/// Whether each command of the list has the answer that is wanted.
+fn are_answered<S: RunStore>(alloc: Global, house: &mut Warehouse<S>) -> Result<bool, AllocError> {
+    let answers = house.run(alloc, commands(alloc)?)?;
+    let are_wanted = answers
+        .iter()
+        .enumerate()
+        .all(|(at, answer)| is_wanted(at, answer));
+    Ok(answers.len() == 6 && are_wanted)
+}
+
 pub fn a_list_of_commands_is_answered(alloc: Global) -> Result<(), Fail> {
     let mut house = Warehouse::new(empty_runs(alloc, false)?, Limits::standard());
-    let answers = house.run(alloc, commands(alloc)?)?;
-    holds(answers.len() == 6, "another count of answers")?;
-    for (at, answer) in answers.iter().enumerate() {
-        holds(is_wanted(at, answer), "another answer")?;
-    }
-    Ok(())
+    holds(are_answered(alloc, &mut house)?, "another answer")
 }
 
 /// An event behind the last sum has none, and its name may have any byte.

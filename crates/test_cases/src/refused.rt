@@ -5,8 +5,7 @@ use crate::holding::holds;
 use crate::stores::empty_runs;
 use cost_rows::Key;
 use report_texts::Cut;
-use sql_runs::SqlRuns;
-use sqlite::MemStore;
+use run_stores::RunStore;
 use std::alloc::{AllocError, Global};
 use std::test::Fail;
 use warehouse::{Answer, Command, Kind, Limits, Query, Refusal, Selection, Warehouse};
@@ -77,7 +76,7 @@ fn letter(answer: &Answer) -> u8 {
 }
 
 /// The letters of the answers to the list, or none where the list was refused.
-fn ran(alloc: Global, house: &mut Warehouse<SqlRuns<MemStore>>) -> Result<[u8; 5], AllocError> {
+fn ran<S: RunStore>(alloc: Global, house: &mut Warehouse<S>) -> Result<[u8; 5], AllocError> {
     let answers = house.run(alloc, commands(alloc)?)?;
     let mut letters = [b'?'; 5];
     for (place, answer) in letters.iter_mut().zip(answers.iter()) {

@@ -2,6 +2,7 @@
 // another.
 use crate::given::Given;
 use prof_store::{Store, StoreError};
+use run_stores::RunStore;
 use sql_runs::SqlRuns;
 use sqlite::{Connection, MemStore, params};
 use std::alloc::Global;
@@ -68,6 +69,14 @@ pub(crate) fn execute(conn: &mut Held, text: &str) -> Result<(), Fail> {
     Ok(())
 }
 
+/// Does a command over a store, which is handed back. It is written over any store: at the type of one it takes ten times as
+/// long to prove.
+fn applied<S: RunStore>(alloc: Global, store: S, command: Command<Given, &[u8]>) -> (Answer, S) {
+    let mut house = Warehouse::new(store, Limits::standard());
+    let answer = house.apply(alloc, command);
+    (answer, house.into_store())
+}
+
 /// Does a command over the store of a database.
 pub(crate) fn answered(
     alloc: Global,
@@ -78,9 +87,8 @@ pub(crate) fn answered(
         Ok(store) => store,
         Err(_) => Err("no store")?,
     };
-    let mut house = Warehouse::new(SqlRuns { store }, Limits::standard());
-    let answer = house.apply(alloc, command);
-    Ok((answer, house.into_store().into_connection()))
+    let (answer, runs) = applied(alloc, SqlRuns { store }, command);
+    Ok((answer, runs.into_connection()))
 }
 
 /// The same as a store of runs, empty.
