@@ -2,7 +2,7 @@
 use Rattle.std.specs.Prelude.{ℕ, Bool, true, false, List, ◌++◌, codes}
 use Rattle.std.specs.Fmt.{decimal}
 use Rattle.cg_text.specs.Errors.{error_text}
-use Rattle.cg_text.specs.declared.faults.ReadError.TheVariants as ends
+use Rattle.cg_text.specs.declared.faults.ReadEnd.TheVariants as ends
 use Rattle.histories.specs.declared.answers.Answer.{Answer}
 use Rattle.histories.specs.declared.answers.Answer.TheVariants.{Run, Held, Done, Text, Refused}
 use Rattle.histories.specs.declared.answers.Excess.{Excess}

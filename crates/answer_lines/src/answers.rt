@@ -1,11 +1,11 @@
 // Answers as they are printed.
 ghost use Rattle.std.specs.Prelude.{◌≡◌, ◌++◌, OnOk, IfOk, codes};
 ghost use Rattle.cg_text.specs.Errors.{error_text};
-ghost use Rattle.cg_text.specs.declared.faults.ReadError.TheVariants as ends;
+ghost use Rattle.cg_text.specs.declared.faults.ReadEnd.TheVariants as ends;
 ghost use Rattle.answer_lines.specs.Answers as told;
 
 use byte_io::push_escaped;
-use cg_text::{Fault, ListVec, ReadError};
+use cg_text::{Fault, ListVec, ReadEnd};
 use histories::{Answer, Excess, Refusal};
 use std::alloc::{AllocError, Global};
 
@@ -13,7 +13,7 @@ use std::alloc::{AllocError, Global};
 fn push_fault(text: &mut Vec<u8>, alloc: Global, fault: Fault, line: u64) -> Result<(), AllocError>
     ensures { OnOk result (text.new.items ≡ text.old.items ++ error_text (ends.Fault fault line)) }
 {
-    let reason = ReadError::Fault(fault, line).to_string(alloc)?;
+    let reason = ReadEnd::Fault(fault, line).to_string(alloc)?;
     text.extend_from_slice(reason.as_bytes())?;
     Ok(())
 }

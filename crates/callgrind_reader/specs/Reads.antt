@@ -2,8 +2,8 @@
 use Rattle.std.specs.Prelude.{◌≡◌, ℕ, ◌+◌, ◌≤◌, List, [], ◌++◌, Option, Some, None, IfSome, Result, Ok, Err}
 use Rattle.cg_formulas.specs.declared.heads.FileHead.{FileHead}
 use Rattle.cg_text.specs.Readings.{reading_of}
-use Rattle.cg_text.specs.declared.faults.ReadError.{ReadError}
-use Rattle.cg_text.specs.declared.faults.ReadError.TheVariants as ends
+use Rattle.cg_text.specs.declared.faults.ReadEnd.{ReadEnd}
+use Rattle.cg_text.specs.declared.faults.ReadEnd.TheVariants as ends
 use Rattle.callgrind_reader.specs.declared.reader.Reader.{Reader}
 use Rattle.profile_records.specs.Records.{Record}
 use Rattle.profile_records.specs.declared.marks.Mark.{Mark}
@@ -49,18 +49,18 @@ pub record HeadOfFile (head : FileHead) (text : List ℕ) : Type 0 where
   pub stated : head.stated ≡ stated_of_file text
 
 -- a head exactly where the file is accepted, else its first fault
-abbrev pub Ended : Result FileHead ReadError → List ℕ → Type 0
+abbrev pub Ended : Result FileHead ReadEnd → List ℕ → Type 0
 Ended (Ok head) text = (fault_of_file text ≡ None) × HeadOfFile head text
 Ended (Err (ends.Fault fault line)) text = fault_of_file text ≡ Some (fault, line)
 Ended (Err ends.Memory) text = Unit {0}
 
 -- one fact where memory did not run out, and another where it did
-abbrev pub MatchMemory : Result FileHead ReadError → Type 0 → Type 0 → Type 0
+abbrev pub MatchMemory : Result FileHead ReadEnd → Type 0 → Type 0 → Type 0
 MatchMemory (Ok head) P Q = P
 MatchMemory (Err (ends.Fault fault line)) P Q = P
 MatchMemory (Err ends.Memory) P Q = Q
 
 -- the file has ended: the sink was told all that was still to be handed on, or a part where memory ran out
-abbrev pub HandsOver : {M : Type 0} → (M → Record → M) → Reader → M → Result FileHead ReadError → M → Type 0
+abbrev pub HandsOver : {M : Type 0} → (M → Record → M) → Reader → M → Result FileHead ReadEnd → M → Type 0
 HandsOver step r before result after = (text : List ℕ) (told : List Record) → Reads r text told
     → MatchMemory result (HandsAll records_of_file step text told before after) (HandsPart records_of_file step text told before after)

@@ -11,8 +11,8 @@ use crate::headers::{form_of, positions_fault, version_fault};
 use crate::layouts::Layout;
 use crate::rows::push_amounts;
 use crate::stated::{Stated, StatedKey};
-use cg_formulas::{FileHead, FlatError, Formulas, TextError, event_line};
-use cg_text::{Fault, HeaderKey, ListVec, ReadError, amount, trim_start};
+use cg_formulas::{FileHead, FlatEnd, Formulas, TextEnd, event_line};
+use cg_text::{Fault, HeaderKey, ListVec, ReadEnd, amount, trim_start};
 use std::alloc::{AllocError, Global};
 
 /// What is known of a file's header.
@@ -100,8 +100,8 @@ impl Header {
                 self.formulas.add(line, event)?;
                 Ok(None)
             }
-            Err(TextError::Fault(fault)) => Ok(Some(fault)),
-            Err(TextError::Memory) => Err(AllocError),
+            Err(TextEnd::Fault(fault)) => Ok(Some(fault)),
+            Err(TextEnd::Memory) => Err(AllocError),
         }
     }
 
@@ -165,7 +165,7 @@ impl Header {
     }
 
     /// What the lines so far say of their file, or the first fault of their formulas.
-    pub fn into_head(self) -> Result<FileHead, ReadError>
+    pub fn into_head(self) -> Result<FileHead, ReadEnd>
         ensures comes { (back : List Reading) → HeaderIs self back → ComesBy (formulas_fault back) result back }
         ensures few { IfOk result (λ head. length head.events ≤ 64) }
     {
@@ -185,8 +185,8 @@ impl Header {
                 derived,
                 stated,
             }),
-            Err(FlatError::Fault(fault, line)) => Err(ReadError::Fault(fault, line)),
-            Err(FlatError::Memory) => Err(ReadError::Memory),
+            Err(FlatEnd::Fault(fault, line)) => Err(ReadEnd::Fault(fault, line)),
+            Err(FlatEnd::Memory) => Err(ReadEnd::Memory),
         }
     }
 }

@@ -6,11 +6,11 @@ ghost use Rattle.profile_records.specs.Records.{Record};
 ghost use Rattle.profile_records.specs.Marks.{KnowsNothing};
 ghost use Rattle.profile_records.specs.declared.marks.Mark.{Mark};
 ghost use Rattle.cg_text.specs.declared.words.Namespace.{Namespace};
-ghost use Rattle.cg_text.specs.declared.faults.ReadError.TheVariants.{Memory};
+ghost use Rattle.cg_text.specs.declared.faults.ReadEnd.TheVariants.{Memory};
 
 use crate::state::State;
 use cg_formulas::FileHead;
-use cg_text::ReadError;
+use cg_text::ReadEnd;
 use profile_records::Sink;
 use std::alloc::{AllocError, Global};
 use text_pieces::Pieces;
@@ -65,7 +65,7 @@ impl Reader {
 
     /// Ends the file: hands on the record of its last line, if that has no end, and answers the
     /// file's head or its first fault.
-    pub fn finish<S: Sink>(self, sink: &mut S) -> Result<FileHead, ReadError>
+    pub fn finish<S: Sink>(self, sink: &mut S) -> Result<FileHead, ReadEnd>
         requires { (IsSpent self → ⊥) → Takes self (S.last sink.old) (S.width sink.old) (S.known sink.old) }
         ensures ended { (text : List ℕ) (told : List Record) → Reads self text told → Ended result text }
         ensures told { HandsOver S.step self (S.meaning sink.old) result (S.meaning sink.new) }

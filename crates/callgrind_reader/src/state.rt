@@ -16,7 +16,7 @@ use crate::names::Names;
 use crate::places::Places;
 use crate::rows::{call_count, cost_row};
 use cg_formulas::FileHead;
-use cg_text::{Fault, HeaderKey, LineKind, NameWord, ReadError, read_line};
+use cg_text::{Fault, HeaderKey, LineKind, NameWord, ReadEnd, read_line};
 use profile_records::{CallCost, SelfCost, Sink};
 use std::alloc::{AllocError, Global};
 use text_pieces::{Line, LineSink};
@@ -272,15 +272,15 @@ impl State {
     }
 
     /// What the file is read as if no more lines come: its head, or its first fault.
-    pub fn head(self) -> Result<FileHead, ReadError>
+    pub fn head(self) -> Result<FileHead, ReadEnd>
         ensures comes { (back : List Reading) → RepresentsAfter self back → Comes result back }
         ensures few { IfOk result (λ head. length head.events ≤ 64) }
     {
         if let Some((fault, line)) = self.fault {
-            return Err(ReadError::Fault(fault, line));
+            return Err(ReadEnd::Fault(fault, line));
         }
         if let Some((line, _)) = self.call {
-            return Err(ReadError::Fault(Fault::CallWithoutCost, line));
+            return Err(ReadEnd::Fault(Fault::CallWithoutCost, line));
         }
         self.header.into_head()
     }

@@ -9,8 +9,8 @@ use Rattle.cg_formulas.specs.declared.definitions.Definition as kept
 use Rattle.cg_text.specs.declared.faults.Fault as faults
 use Rattle.cg_text.specs.declared.faults.Fault.TheVariants.{EventTwice}
 use Rattle.cg_formulas.specs.declared.flats.Flat.{Flat}
-use Rattle.cg_formulas.specs.declared.flats.FlatError.{FlatError}
-use Rattle.cg_formulas.specs.declared.flats.FlatError.TheVariants.{Fault, Memory}
+use Rattle.cg_formulas.specs.declared.flats.FlatEnd.{FlatEnd}
+use Rattle.cg_formulas.specs.declared.flats.FlatEnd.TheVariants.{Fault, Memory}
 use Rattle.cg_formulas.specs.declared.formulas.Formulas.{Formulas}
 use Rattle.cg_formulas.proofs.HeldLemmas.{fault-stays, plain_back-push}
 
@@ -52,13 +52,13 @@ represents-fault : (events : List (List ℕ)) (o : Option ℕ) (es ds : List Def
 represents-fault events None es ds x represents h = represents.fault events ∙ h
 represents-fault events (Some line) es ds x represents h = represents events ∙ ap (λ o. first_or o (Some EventTwice) line) h
 
-flat_err : (e : FlatError) (flat : Flat) (events : List (List ℕ)) (o : Option ℕ) (ks : List kept.Definition) (i : ℕ) (d : kept.Definition) (ds : List Definition) → flat.events ≡ events → i < length ks
+flat_err : (e : FlatEnd) (flat : Flat) (events : List (List ℕ)) (o : Option ℕ) (ks : List kept.Definition) (i : ℕ) (d : kept.Definition) (ds : List Definition) → flat.events ≡ events → i < length ks
     → Stands o (plain_back ks) ds → Defines (Err e) flat (get_or ks i d) (plain_back (take i ks)) → FlatIs (Err e) events ds
 flat_err Memory flat events o ks i d ds same inside represents h = h
 flat_err (Fault f line) flat events o ks i d ds same inside represents h =
     represents-fault events o (plain_back ks) ds (f, line) represents
     (fault-at events ks i d (f, line) inside (subst (λ ns. formula_fault ns (plain_definition (get_or ks i d) ∷ plain_back (take i ks)) ≡ Some (f, line)) same h))
 
-pub flat-err : (f : Formulas) (e : FlatError) (flat : Flat) (events : List (List ℕ)) (i : ℕ) (d : kept.Definition) (ds : List Definition) → flat.events ≡ events → i < length f.definitions
+pub flat-err : (f : Formulas) (e : FlatEnd) (flat : Flat) (events : List (List ℕ)) (i : ℕ) (d : kept.Definition) (ds : List Definition) → flat.events ≡ events → i < length f.definitions
     → Holds f ds → Defines (Err e) flat (get_or f.definitions i d) (plain_back (take i f.definitions)) → FlatIs (Err e) events ds
 flat-err f e flat events i d ds same inside holds h = flat_err e flat events f.changed f.definitions i d ds same inside holds.represents h

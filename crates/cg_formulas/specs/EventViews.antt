@@ -7,8 +7,8 @@ use Rattle.cg_text.specs.declared.faults.Fault as faults
 use Rattle.cg_text.specs.declared.faults.Fault.TheVariants.{FormulaForm}
 use Rattle.cg_formulas.specs.declared.event_lines.Formula.{Formula}
 use Rattle.cg_formulas.specs.declared.event_lines.EventLine.{EventLine}
-use Rattle.cg_formulas.specs.declared.event_lines.TextError.{TextError}
-use Rattle.cg_formulas.specs.declared.event_lines.TextError.TheVariants.{Fault, Memory}
+use Rattle.cg_formulas.specs.declared.event_lines.TextEnd.{TextEnd}
+use Rattle.cg_formulas.specs.declared.event_lines.TextEnd.TheVariants.{Fault, Memory}
 
 -- ---- terms, read from a text
 
@@ -53,13 +53,13 @@ abbrev pub kept_bytes : EventLine → ℕ
 kept_bytes e = length e.name + formula_bytes e.formula
 
 -- what a line says, or its fault, unless memory was refused
-abbrev pub EventIs : Result EventLine TextError → Result Event faults.Fault → Type 0
+abbrev pub EventIs : Result EventLine TextEnd → Result Event faults.Fault → Type 0
 EventIs (Ok e) said = Ok (plain_event e) ≡ said
 EventIs (Err (Fault fault)) said = Err fault ≡ said
 EventIs (Err Memory) said = ⊤
 
 -- a formula that is read, or that it is out of form, unless memory was refused
-abbrev pub FormulaIs : Result Formula TextError → Option (List Term) → Type 0
+abbrev pub FormulaIs : Result Formula TextEnd → Option (List Term) → Type 0
 FormulaIs (Ok formula) said = Some (terms_in formula.text) ≡ said
 FormulaIs (Err (Fault fault)) said = (fault ≡ FormulaForm) × (None ≡ said)
 FormulaIs (Err Memory) said = ⊤

@@ -10,8 +10,8 @@ use Rattle.cg_text.specs.Distinct.{are_distinct}
 use Rattle.cg_formulas.specs.Definitions.{plain_definition}
 use Rattle.cg_formulas.specs.declared.definitions.Definition as kept
 use Rattle.cg_formulas.specs.declared.flats.Flat.{Flat}
-use Rattle.cg_formulas.specs.declared.flats.FlatError.{FlatError}
-use Rattle.cg_formulas.specs.declared.flats.FlatError.TheVariants.{Fault, Memory}
+use Rattle.cg_formulas.specs.declared.flats.FlatEnd.{FlatEnd}
+use Rattle.cg_formulas.specs.declared.flats.FlatEnd.TheVariants.{Fault, Memory}
 
 -- the coefficients of a name, one for each event, where derived events have these
 abbrev pub row_in : List (List ℕ) → List (List ℕ × List ℕ) → List ℕ → Option (List ℕ)
@@ -66,19 +66,19 @@ abbrev pub CountsTerms : Flat → List Term → List ℕ → Type 0
 CountsTerms flat terms row = (back : List Definition) → Flattens flat back → IsRow row flat.events (λ event. counted event terms back)
 
 -- one more definition: its coefficients as well, or the first fault
-abbrev pub Defines : Result (Unit {0}) FlatError → Flat → kept.Definition → List Definition → Type 0
+abbrev pub Defines : Result (Unit {0}) FlatEnd → Flat → kept.Definition → List Definition → Type 0
 Defines (Ok done) flat d back = Flattens flat (plain_definition d ∷ back)
 Defines (Err (Fault fault line)) flat d back = formula_fault flat.events (plain_definition d ∷ back) ≡ Some (fault, line)
 Defines (Err Memory) flat d back = ⊤
 
 -- of a name that is not defined yet
-abbrev pub DefinesNew : Result (Unit {0}) FlatError → Flat → kept.Definition → Flat → Type 0
+abbrev pub DefinesNew : Result (Unit {0}) FlatEnd → Flat → kept.Definition → Flat → Type 0
 DefinesNew result old d new = (back : List Definition) → Flattens old back → is_defined (plain_definition d).name back ≡ false → Defines result new d back
 
 -- ---- at the end
 
 -- what definitions yield: coefficients exactly where they have no fault, else the first one, unless memory was refused
-abbrev pub FlatIs : Result Flat FlatError → List (List ℕ) → List Definition → Type 0
+abbrev pub FlatIs : Result Flat FlatEnd → List (List ℕ) → List Definition → Type 0
 FlatIs (Ok flat) events back = (formula_fault events back ≡ None) × FlatOf flat events back
 FlatIs (Err (Fault fault line)) events back = formula_fault events back ≡ Some (fault, line)
 FlatIs (Err Memory) events back = ⊤

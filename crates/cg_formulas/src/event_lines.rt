@@ -28,12 +28,12 @@ pub struct EventLine {
 /// Why an `event:` line is not read: it is out of form, or memory was refused. Printed as
 /// `F16 formula form` or `out of memory`.
 #[derive(Clone, Copy, Debug, PartialEq, Eq)]
-pub enum TextError {
+pub enum TextEnd {
     Fault(Fault),
     Memory,
 }
 
-impl fmt::Display for TextError {
+impl fmt::Display for TextEnd {
     ghost use Rattle.std.specs.Prelude.{Some};
     ghost use Rattle.cg_formulas.specs.Errors.{text_error_text};
 
@@ -41,32 +41,32 @@ impl fmt::Display for TextError {
 
     fn fmt<W: fmt::Write>(&self, f: &mut fmt::Formatter<W>) -> fmt::Result {
         match self {
-            TextError::Fault(fault) => write!(f, "{fault}"),
-            TextError::Memory => write!(f, "out of memory"),
+            TextEnd::Fault(fault) => write!(f, "{fault}"),
+            TextEnd::Memory => write!(f, "out of memory"),
         }
     }
 }
 
-impl Error for TextError {}
+impl Error for TextEnd {}
 
-impl From<AllocError> for TextError {
+impl From<AllocError> for TextEnd {
     ghost use Rattle.std.specs.Prelude.{◌≡◌};
-    ghost use Rattle.cg_formulas.specs.declared.event_lines.TextError.TheVariants as ends;
+    ghost use Rattle.cg_formulas.specs.declared.event_lines.TextEnd.TheVariants as ends;
 
     ghost from_gives = { λ _ end. end ≡ ends.Memory };
 
-    fn from(_error: AllocError) -> TextError {
-        TextError::Memory
+    fn from(_error: AllocError) -> TextEnd {
+        TextEnd::Memory
     }
 }
 
 /// The formula that a text is, with a copy of it. `FormulaForm` where it is none.
-fn copied_formula(alloc: Global, text: &[u8]) -> Result<Formula, TextError>
+fn copied_formula(alloc: Global, text: &[u8]) -> Result<Formula, TextEnd>
     ensures formula { FormulaIs result (formula_of text.now) }
     ensures text { IfOk result (λ formula. formula.text ≡ text.now) }
 {
     if !is_formula(text) {
-        return Err(TextError::Fault(Fault::FormulaForm));
+        return Err(TextEnd::Fault(Fault::FormulaForm));
     }
     let text = ListVec::from_vec(text.to_vec(alloc)?);
     Ok(Formula { text })
@@ -93,14 +93,14 @@ fn before_colon(text: &[u8]) -> &[u8]
 
 /// What a line says by a name and what follows it: nothing, `:` or `=` and a formula. Else
 /// `FormulaForm`.
-fn named(alloc: Global, name: &[u8], rest: &[u8]) -> Result<EventLine, TextError>
+fn named(alloc: Global, name: &[u8], rest: &[u8]) -> Result<EventLine, TextEnd>
     ensures event { EventIs result (named name.now rest.now) }
     ensures within { IfOk result (λ e. kept_bytes e ≤ length name.now + length rest.now) }
 {
     let formula = match rest.split_first() {
         None | Some((b':', _)) => None,
         Some((b'=', text)) => Some(copied_formula(alloc, before_colon(text))?),
-        Some(_) => return Err(TextError::Fault(Fault::FormulaForm)),
+        Some(_) => return Err(TextEnd::Fault(Fault::FormulaForm)),
     };
     let name = ListVec::from_vec(name.to_vec(alloc)?);
     Ok(EventLine { name, formula })
@@ -129,13 +129,13 @@ fn split_name(text: &[u8]) -> (&[u8], &[u8])
 /// then, if there is one, `:` and a long name, which is not kept. Else `FormulaForm`. No more bytes are
 /// kept than there are.
 #[tactic(auto, unfolding(crate::specs::EventLines::event_of))]
-pub fn event_line(alloc: Global, value: &[u8]) -> Result<EventLine, TextError>
+pub fn event_line(alloc: Global, value: &[u8]) -> Result<EventLine, TextEnd>
     ensures event { EventIs result (event_of value.now) }
     ensures within { IfOk result (λ e. kept_bytes e ≤ length value.now) }
 {
     let (name, rest) = split_name(trim_start(value));
     if name.is_empty() {
-        return Err(TextError::Fault(Fault::FormulaForm));
+        return Err(TextEnd::Fault(Fault::FormulaForm));
     }
     named(alloc, name, trim_start(rest))
 }

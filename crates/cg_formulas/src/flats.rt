@@ -38,12 +38,12 @@ pub struct Flat {
 /// Why formulas yield no coefficients: their first fault with its line, or out of memory. Printed
 /// as `line 4: F18 formula too large` or `out of memory`.
 #[derive(Clone, Copy, Debug, PartialEq, Eq)]
-pub enum FlatError {
+pub enum FlatEnd {
     Fault(Fault, u64),
     Memory,
 }
 
-impl fmt::Display for FlatError {
+impl fmt::Display for FlatEnd {
     ghost use Rattle.std.specs.Prelude.{Some};
     ghost use Rattle.cg_formulas.specs.Errors.{flat_error_text};
 
@@ -51,22 +51,22 @@ impl fmt::Display for FlatError {
 
     fn fmt<W: fmt::Write>(&self, f: &mut fmt::Formatter<W>) -> fmt::Result {
         match self {
-            FlatError::Fault(fault, line) => write!(f, "line {line}: {fault}"),
-            FlatError::Memory => write!(f, "out of memory"),
+            FlatEnd::Fault(fault, line) => write!(f, "line {line}: {fault}"),
+            FlatEnd::Memory => write!(f, "out of memory"),
         }
     }
 }
 
-impl Error for FlatError {}
+impl Error for FlatEnd {}
 
-impl From<AllocError> for FlatError {
+impl From<AllocError> for FlatEnd {
     ghost use Rattle.std.specs.Prelude.{◌≡◌};
-    ghost use Rattle.cg_formulas.specs.declared.flats.FlatError.TheVariants as ends;
+    ghost use Rattle.cg_formulas.specs.declared.flats.FlatEnd.TheVariants as ends;
 
     ghost from_gives = { λ _ end. end ≡ ends.Memory };
 
-    fn from(_error: AllocError) -> FlatError {
-        FlatError::Memory
+    fn from(_error: AllocError) -> FlatEnd {
+        FlatEnd::Memory
     }
 }
 
@@ -239,22 +239,22 @@ impl Flat {
     }
 
     /// Adds the derived event of a definition whose name is new, or answers its fault.
-    pub(crate) fn define(&mut self, alloc: Global, definition: &Definition) -> Result<(), FlatError>
+    pub(crate) fn define(&mut self, alloc: Global, definition: &Definition) -> Result<(), FlatEnd>
         ensures events { self.new.events ≡ self.old.events }
         ensures defines { DefinesNew result self.old definition.now self.new }
     {
         let name = definition.name.as_slice();
         if self.event_at(name).is_some() {
-            return Err(FlatError::Fault(Fault::EventTwice, definition.line));
+            return Err(FlatEnd::Fault(Fault::EventTwice, definition.line));
         }
         if self.derived.len() >= MOST_NAMES {
-            return Err(FlatError::Fault(Fault::TooManyEvents, definition.line));
+            return Err(FlatEnd::Fault(Fault::TooManyEvents, definition.line));
         }
         let Some(row) = self.counted(alloc, definition.formula.text.as_slice())? else {
-            return Err(FlatError::Fault(Fault::FormulaUnknown, definition.line));
+            return Err(FlatEnd::Fault(Fault::FormulaUnknown, definition.line));
         };
         if total(&row) > MOST_COUNTS {
-            return Err(FlatError::Fault(Fault::FormulaTooLarge, definition.line));
+            return Err(FlatEnd::Fault(Fault::FormulaTooLarge, definition.line));
         }
         let name = ListVec::from_vec(name.to_vec(alloc)?);
         self.derived.push((name, ListVec::from_vec(row)))?;

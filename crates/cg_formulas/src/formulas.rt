@@ -8,7 +8,7 @@ ghost use Rattle.cg_formulas.specs.Flats.{FlatIs};
 
 use crate::definitions::Definition;
 use crate::event_lines::{EventLine, Formula};
-use crate::flats::{Flat, FlatError, MOST_NAMES};
+use crate::flats::{Flat, FlatEnd, MOST_NAMES};
 use crate::terms::terms;
 use cg_text::{Fault, ListVec};
 use std::alloc::{AllocError, Global};
@@ -123,7 +123,7 @@ impl Formulas {
 
     /// The coefficients of the derived events over the events of a file, or the first fault of the
     /// formulas with its line.
-    pub fn flatten(&self, events: &[ListVec<u8>]) -> Result<Flat, FlatError>
+    pub fn flatten(&self, events: &[ListVec<u8>]) -> Result<Flat, FlatEnd>
         requires { are_distinct events.now ≡ true }
         ensures { (back : List specs.Definition) → Holds self.now back → FlatIs result events.now back }
     {
@@ -132,7 +132,7 @@ impl Formulas {
             flat.define(self.alloc, definition)?;
         }
         match self.changed {
-            Some(line) => Err(FlatError::Fault(Fault::EventTwice, line)),
+            Some(line) => Err(FlatEnd::Fault(Fault::EventTwice, line)),
             None => Ok(flat),
         }
     }

@@ -19,8 +19,8 @@ mod rows;
 // The terms of a formula (specs/EventLines.antt).
 mod terms;
 
-pub use event_lines::{EventLine, Formula, TextError, event_line};
-pub use flats::{Flat, FlatError};
+pub use event_lines::{EventLine, Formula, TextEnd, event_line};
+pub use flats::{Flat, FlatEnd};
 pub use formulas::Formulas;
 pub use heads::FileHead;
 pub use laws::{a_repeat_changes_nothing, coefficients_give_the_values, values_add_up};

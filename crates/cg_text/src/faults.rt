@@ -98,12 +98,12 @@ impl Error for Fault {}
 /// Why a reader gives no head: the file's first fault with its line, or out of memory. Printed as
 /// `line 3: F12 position range` or `out of memory`.
 #[derive(Clone, Copy, Debug, PartialEq, Eq)]
-pub enum ReadError {
+pub enum ReadEnd {
     Fault(Fault, u64),
     Memory,
 }
 
-impl fmt::Display for ReadError {
+impl fmt::Display for ReadEnd {
     ghost use Rattle.std.specs.Prelude.{Some};
     ghost use Rattle.cg_text.specs.Errors.{error_text};
 
@@ -111,21 +111,21 @@ impl fmt::Display for ReadError {
 
     fn fmt<W: fmt::Write>(&self, f: &mut fmt::Formatter<W>) -> fmt::Result {
         match self {
-            ReadError::Fault(fault, line) => write!(f, "line {line}: {fault}"),
-            ReadError::Memory => write!(f, "out of memory"),
+            ReadEnd::Fault(fault, line) => write!(f, "line {line}: {fault}"),
+            ReadEnd::Memory => write!(f, "out of memory"),
         }
     }
 }
 
-impl Error for ReadError {}
+impl Error for ReadEnd {}
 
-impl From<AllocError> for ReadError {
+impl From<AllocError> for ReadEnd {
     ghost use Rattle.std.specs.Prelude.{◌≡◌};
-    ghost use Rattle.cg_text.specs.declared.faults.ReadError.TheVariants as ends;
+    ghost use Rattle.cg_text.specs.declared.faults.ReadEnd.TheVariants as ends;
 
     ghost from_gives = { λ _ end. end ≡ ends.Memory };
 
-    fn from(_error: AllocError) -> ReadError {
-        ReadError::Memory
+    fn from(_error: AllocError) -> ReadEnd {
+        ReadEnd::Memory
     }
 }

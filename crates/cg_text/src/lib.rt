@@ -34,7 +34,7 @@ mod words;
 
 pub use blanks::{is_blank, line_text, strip_carriage_return, trim_end, trim_start};
 pub use distinct::are_distinct;
-pub use faults::{Fault, ReadError};
+pub use faults::{Fault, ReadEnd};
 pub use kinds::{LineKind, classify};
 pub use laws::lines_are_the_text;
 pub use lines::{Lines, first_line, line_end};

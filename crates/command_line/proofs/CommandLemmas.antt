@@ -7,8 +7,8 @@ use Rattle.clap.specs.declared.error.Error.{Error}
 use Rattle.clap.specs.declared.error.kind.ErrorKind.{ErrorKind}
 use Rattle.clap.specs.declared.error.kind.ErrorKind.TheVariants.{OutOfMemory}
 use Rattle.command_line.specs.declared.plans.Plan.{Plan}
-use Rattle.command_line.specs.declared.plans.PlanError.{PlanError}
-use Rattle.command_line.specs.declared.plans.PlanError.TheVariants.{Memory, RunAndGroup, LessRunAndLessGroup, Clap}
+use Rattle.command_line.specs.declared.plans.PlanEnd.{PlanEnd}
+use Rattle.command_line.specs.declared.plans.PlanEnd.TheVariants.{Memory, RunAndGroup, LessRunAndLessGroup, Clap}
 use Rattle.command_line.specs.Grammar.{IsCommandLine, command_line}
 use Rattle.command_line.specs.Plans.{AreApart, AreBothLessNamed, AreBothNamed, IsEndBy, IsEndFor, IsEndFound, IsPlanFor, IsPlannedFor}
 
@@ -45,7 +45,7 @@ among_kept kinds error kept (inr among) same other =
 none_among : (kind : ErrorKind) (kinds : Kinds) → IsAmong kind kinds → kinds ≡ [] → ⊥
 none_among kind kinds among none = subst (IsAmong kind) none among
 
-pub fault_kept : (a : App) (words : List Text) (error : Error) (end : PlanError) → IsCommandLine a → (is_simple_and_free a ≡ true → HasKind (fault_of a words) error) → IsEndBy error end
+pub fault_kept : (a : App) (words : List Text) (error : Error) (end : PlanEnd) → IsCommandLine a → (is_simple_and_free a ≡ true → HasKind (fault_of a words) error) → IsEndBy error end
     → IsEndFor words end
 fault_kept a words error Memory line kinds by = tt
 fault_kept a words error RunAndGroup line kinds by = absurd by
@@ -54,7 +54,7 @@ fault_kept a words error (Clap kept) line kinds (same, other) =
     let among = among_kept (fault_of a words) error kept (kinds (free a line)) same other in
     (a, line, ((λ some. among), (λ none. absurd (none_among (kind_of kept) (fault_of a words) among none))))
 
-pub both_named : (a : App) (m : ArgMatches) (words : List Text) (end : PlanError) → IsCommandLine a → HasMatchesOf a words m → (is_simple_and_free a ≡ true → fault_of a words ≡ [])
+pub both_named : (a : App) (m : ArgMatches) (words : List Text) (end : PlanEnd) → IsCommandLine a → HasMatchesOf a words m → (is_simple_and_free a ≡ true → fault_of a words ≡ [])
     → IsEndFound (subcommand_rows_of m) end → IsEndFor words end
 both_named a m words Memory line matches none found = tt
 both_named a m words RunAndGroup line matches none found = (a, line, (none (free a line), subst AreBothNamed (matches (simple a line)).1 found))

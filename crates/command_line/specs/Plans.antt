@@ -14,8 +14,8 @@ use Rattle.cost_rows.specs.declared.keys.Key.TheVariants.{Object, File, Function
 use Rattle.profile_records.specs.declared.kinds.Kind.{Kind}
 use Rattle.profile_records.specs.declared.kinds.Kind.TheVariants.{Callgrind, Folded}
 use Rattle.command_line.specs.declared.plans.Plan.{Plan}
-use Rattle.command_line.specs.declared.plans.PlanError.{PlanError}
-use Rattle.command_line.specs.declared.plans.PlanError.TheVariants.{Memory, RunAndGroup, LessRunAndLessGroup, Clap}
+use Rattle.command_line.specs.declared.plans.PlanEnd.{PlanEnd}
+use Rattle.command_line.specs.declared.plans.PlanEnd.TheVariants.{Memory, RunAndGroup, LessRunAndLessGroup, Clap}
 use Rattle.command_line.specs.declared.plans.Plan.TheVariants.{Total, Import, Remove, Runs, Group, Join, Leave, Baseline, Groups}
 use Rattle.command_line.specs.declared.plans.Plan.TheVariants.{By, Inclusive, Callers, Callees, Subtract, Verify}
 use Rattle.command_line.specs.declared.plans.Plan.TheVariants as plans
@@ -213,14 +213,14 @@ pub record AreApart (found : Option (Text × List Row)) : Type 0 where
   pub less : AreBothLessNamed found → ⊥
 
 -- why nothing is planned for what was found of a subcommand
-abbrev pub IsEndFound : Option (Text × List Row) → PlanError → Type 0
+abbrev pub IsEndFound : Option (Text × List Row) → PlanEnd → Type 0
 IsEndFound found Memory = Unit {0}
 IsEndFound found RunAndGroup = AreBothNamed found
 IsEndFound found LessRunAndLessGroup = (AreBothNamed found → ⊥) × AreBothLessNamed found
 IsEndFound found (Clap error) = ⊥
 
 -- what a clap error is to the program
-abbrev pub IsEndBy : Error → PlanError → Type 0
+abbrev pub IsEndBy : Error → PlanEnd → Type 0
 IsEndBy error Memory = kind_of error ≡ OutOfMemory
 IsEndBy error RunAndGroup = ⊥
 IsEndBy error LessRunAndLessGroup = ⊥
@@ -229,13 +229,13 @@ IsEndBy error (Clap kept) = (kept ≡ error) × (kind_of error ≢ OutOfMemory)
 -- by the kinds of faults that words have, and what is found of their subcommand: a fault of the grammar is one of them, and comes
 -- first; then a run and a group exclude each other, first those of the report and then those that are taken off; out of memory may
 -- come at any time
-abbrev pub IsEndOf : Kinds → Option (Text × List Row) → PlanError → Type 0
+abbrev pub IsEndOf : Kinds → Option (Text × List Row) → PlanEnd → Type 0
 IsEndOf kinds found Memory = Unit {0}
 IsEndOf kinds found RunAndGroup = (kinds ≡ []) × AreBothNamed found
 IsEndOf kinds found LessRunAndLessGroup = (kinds ≡ []) × (AreBothNamed found → ⊥) × AreBothLessNamed found
 IsEndOf kinds found (Clap error) = (kinds ≢ [] → IsAmong (kind_of error) kinds) × (kinds ≡ [] → AreApart found)
 
 -- why there is no plan for the words of a command line
-abbrev pub IsEndFor : List Text → PlanError → Type 0
+abbrev pub IsEndFor : List Text → PlanEnd → Type 0
 IsEndFor words Memory = Unit {0}
 IsEndFor words end = (app : App) × IsCommandLine app × IsEndOf (fault_of app words) (subcommand_of app words) end

@@ -7,7 +7,7 @@ ghost use Rattle.command_line.specs.Plans.{HasWord, HasRun, IsRunNumber, IsPlann
 ghost use Rattle.command_line.specs.Plans.{AreApart, IsEndFound, IsEndFor};
 
 use crate::grammar::grammar;
-use crate::plans::{Plan, PlanError};
+use crate::plans::{Plan, PlanEnd};
 use crate::words::{
     files, is_given, key, less, less_run_and_less_group, limit, most_bytes, port, requests, run,
     run_and_group, runs, selection, threshold, word,
@@ -275,14 +275,14 @@ fn plan_of<'a>(
 }
 
 /// The plan for what was found of the words, where that is of a subcommand.
-fn plan_found<'a>(alloc: Global, matches: &ArgMatches<'a>) -> Result<Option<Plan<'a>>, PlanError>
+fn plan_found<'a>(alloc: Global, matches: &ArgMatches<'a>) -> Result<Option<Plan<'a>>, PlanEnd>
     ensures planned { IfOk result (λ found. IfSome found (IsPlannedFor (subcommand_rows_of matches.now))) }
     ensures apart { IfOk result (λ _. AreApart (subcommand_rows_of matches.now)) }
     ensures end { IfErr result (IsEndFound (subcommand_rows_of matches.now)) }
 {
     match matches.subcommand() {
-        Some((_, words)) if run_and_group(words) => Err(PlanError::RunAndGroup),
-        Some((_, words)) if less_run_and_less_group(words) => Err(PlanError::LessRunAndLessGroup),
+        Some((_, words)) if run_and_group(words) => Err(PlanEnd::RunAndGroup),
+        Some((_, words)) if less_run_and_less_group(words) => Err(PlanEnd::LessRunAndLessGroup),
         Some((name, words)) => Ok(plan_of(alloc, name, words)?),
         None => Ok(None),
     }
@@ -293,7 +293,7 @@ fn plan_by<'a>(
     alloc: Global,
     grammar: &mut Command<'a>,
     words: &'a [String],
-) -> Result<Plan<'a>, PlanError>
+) -> Result<Plan<'a>, PlanEnd>
     requires grammar { IsCommandLine (app_of grammar.old) }
     requires local { (fields_of grammar.old).has_globals ≡ false }
     ensures plan { IfOk result (IsPlanFor (map string_bytes words.now)) }
@@ -304,11 +304,11 @@ fn plan_by<'a>(
         return Ok(plan);
     }
     let error = grammar.error(ErrorKind::MissingSubcommand, "a subcommand is required")?;
-    Err(PlanError::Clap(error))
+    Err(PlanEnd::Clap(error))
 }
 
 /// The plan for the words of a command line, of which the first is the program's name.
-pub fn plan<'a>(alloc: Global, words: &'a [String]) -> Result<Plan<'a>, PlanError>
+pub fn plan<'a>(alloc: Global, words: &'a [String]) -> Result<Plan<'a>, PlanEnd>
     ensures plan { IfOk result (IsPlanFor (map string_bytes words.now)) }
     ensures end { IfErr result (IsEndFor (map string_bytes words.now)) }
 {

@@ -13,4 +13,4 @@ mod subcommands;
 mod words;
 
 pub use command::plan;
-pub use plans::{Plan, PlanError};
+pub use plans::{Plan, PlanEnd};

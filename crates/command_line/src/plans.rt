@@ -133,7 +133,7 @@ pub enum Plan<'a> {
 
 /// Why there is no plan.
 #[derive(Drop)]
-pub enum PlanError {
+pub enum PlanEnd {
     /// A growth was refused.
     Memory,
     /// Both a run and a group were selected.
@@ -144,27 +144,27 @@ pub enum PlanError {
     Clap(clap::Error),
 }
 
-impl From<AllocError> for PlanError {
+impl From<AllocError> for PlanEnd {
     ghost use Rattle.std.specs.Prelude.{◌≡◌};
-    ghost use Rattle.command_line.specs.declared.plans.PlanError.TheVariants as ends;
+    ghost use Rattle.command_line.specs.declared.plans.PlanEnd.TheVariants as ends;
 
     ghost from_gives = { λ _ end. end ≡ ends.Memory };
 
-    fn from(_error: AllocError) -> PlanError {
-        PlanError::Memory
+    fn from(_error: AllocError) -> PlanEnd {
+        PlanEnd::Memory
     }
 }
 
-impl From<clap::Error> for PlanError {
+impl From<clap::Error> for PlanEnd {
     ghost use Rattle.command_line.specs.Plans.{IsEndBy};
 
     ghost from_gives = { IsEndBy };
 
-    fn from(error: clap::Error) -> PlanError {
+    fn from(error: clap::Error) -> PlanEnd {
         if error.kind() == ErrorKind::OutOfMemory {
-            PlanError::Memory
+            PlanEnd::Memory
         } else {
-            PlanError::Clap(error)
+            PlanEnd::Clap(error)
         }
     }
 }

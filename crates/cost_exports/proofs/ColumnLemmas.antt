@@ -5,7 +5,7 @@ use Rattle.cost_rows.specs.Keys.{place_of_row}
 use Rattle.cost_rows.specs.Merging.{sum_where}
 use Rattle.cost_rows.specs.Sums.{Spot, any_thread, spot_of, self_sum}
 use Rattle.cost_rows.specs.WalkSums.{rows_cost}
-use Rattle.cost_rows.specs.declared.rows.Cell.{Cell}
+use Rattle.cost_rows.specs.declared.rows.CellRow.{CellRow}
 use Rattle.profile_records.specs.Records.{Cost, Record, Own, Called}
 use Rattle.cost_reports.proofs.CostLemmas.{swap_sums}
 use Rattle.report_texts.specs.Amounts.{with_amount}
@@ -15,11 +15,11 @@ use Rattle.cost_exports.proofs.SpreadLemmas.{event_spot-apart, event_spot-total}
 
 -- ---- the amounts of rows
 
-amount_named : Cell (List ℕ) → Option (List ℕ) → List (EventSpot × ℕ)
+amount_named : CellRow (List ℕ) → Option (List ℕ) → List (EventSpot × ℕ)
 amount_named r None = []
 amount_named r (Some event) = (record { spot = any_thread (place_of_row r); event = event }, r.cost) ∷ []
 
-amounts_of : List (List ℕ) → List (Cell (List ℕ)) → List (EventSpot × ℕ)
+amounts_of : List (List ℕ) → List (CellRow (List ℕ)) → List (EventSpot × ℕ)
 amounts_of events [] = []
 amounts_of events (r ∷ cells) = amount_named r (slice_get events r.event) ++ amounts_of events cells
 
@@ -34,12 +34,12 @@ added-append : (sums xs ys : List (EventSpot × ℕ)) → added sums (xs ++ ys) 
 added-append sums [] ys = refl
 added-append sums (x ∷ xs) ys = added-append (with_amount event_spot_cmp sums x.0 x.1) xs ys
 
-one_added : (sums : List (EventSpot × ℕ)) (r : Cell (List ℕ)) (event : Option (List ℕ)) → with_cell_of sums r event ≡ added sums (amount_named r event)
+one_added : (sums : List (EventSpot × ℕ)) (r : CellRow (List ℕ)) (event : Option (List ℕ)) → with_cell_of sums r event ≡ added sums (amount_named r event)
 unfolding amount_named
 one_added sums r None = refl
 one_added sums r (Some event) = refl
 
-cells_added : (events : List (List ℕ)) (sums : List (EventSpot × ℕ)) (cells : List (Cell (List ℕ))) → fold (with_cell_in events) sums cells ≡ added sums (amounts_of events cells)
+cells_added : (events : List (List ℕ)) (sums : List (EventSpot × ℕ)) (cells : List (CellRow (List ℕ))) → fold (with_cell_in events) sums cells ≡ added sums (amounts_of events cells)
 unfolding amounts_of
 cells_added events sums [] = refl
 cells_added events sums (r ∷ cells) =
@@ -165,12 +165,12 @@ module _ (test : EventSpot → Bool) where
       further : (m j : ℕ) → (m + 1) + j ≡ m + suc j
       further m j = omega arith
 
-  sum_named : (r : Cell (List ℕ)) (event : Option (List ℕ)) → sum (amount_named r event) ≡ named (place_of_row r) r.cost event
+  sum_named : (r : CellRow (List ℕ)) (event : Option (List ℕ)) → sum (amount_named r event) ≡ named (place_of_row r) r.cost event
   unfolding amount_named
   sum_named r None = refl
   sum_named r (Some event) = no_more (if at event (place_of_row r) then r.cost else 0)
 
-  of_cells : (events : List (List ℕ)) (cells : List (Cell (List ℕ))) → sum (amounts_of events cells) ≡ over 0 events (λ passes k. rows_cost passes k cells)
+  of_cells : (events : List (List ℕ)) (cells : List (CellRow (List ℕ))) → sum (amounts_of events cells) ≡ over 0 events (λ passes k. rows_cost passes k cells)
   unfolding amounts_of
   of_cells events [] = sym (over-none 0 events)
   of_cells events (r ∷ cells) =

@@ -8,7 +8,7 @@ use Rattle.cost_rows.specs.Keys.{place_of_row}
 use Rattle.cost_rows.specs.Sums.{Spot, spot_of, self_sum}
 use Rattle.cost_rows.specs.Walks.{HaveCosts}
 use Rattle.cost_rows.specs.WalkSums.{rows_cost}
-use Rattle.cost_rows.specs.declared.rows.Cell.{Cell}
+use Rattle.cost_rows.specs.declared.rows.CellRow.{CellRow}
 use Rattle.profile_records.specs.Records.{Record, Own, Called}
 use Rattle.report_texts.specs.Costs.{EventCells, EventRecords, StandForEach, all_rows, weighted}
 use Rattle.report_texts.specs.Amounts.{with_amount}
@@ -59,12 +59,12 @@ module _ (file : List ℕ) where
   abbrev in_file : Spot → Bool
   in_file p = bytes_eq p.file file
 
-  abbrev is_row : Cell (List ℕ) → Bool
+  abbrev is_row : CellRow (List ℕ) → Bool
   is_row r = bytes_eq r.file file
 
   -- ---- rows that were added
 
-  known-step : (held : FileCosts) (row : Cell (List ℕ)) (b : Bool)
+  known-step : (held : FileCosts) (row : CellRow (List ℕ)) (b : Bool)
       → (if b then record { file = held.file; known = true; costs = with_amount nat_cmp held.costs row.line row.cost } else held).known ≡ held.known || b
   known-step held row true = or_true held.known
     where
@@ -77,7 +77,7 @@ module _ (file : List ℕ) where
       or_none true = refl
       or_none false = refl
 
-  file-step : (held : FileCosts) (row : Cell (List ℕ)) → (with_line held row).file ≡ held.file
+  file-step : (held : FileCosts) (row : CellRow (List ℕ)) → (with_line held row).file ≡ held.file
   file-step held row = go (bytes_eq row.file held.file)
     where
       go : (b : Bool) → (if b then record { file = held.file; known = true; costs = with_amount nat_cmp held.costs row.line row.cost } else held).file ≡ held.file
@@ -88,7 +88,7 @@ module _ (file : List ℕ) where
   or_then true b c = refl
   or_then false b c = refl
 
-  known-rows : (rows : List (Cell (List ℕ))) (held : FileCosts) → held.file ≡ file → (fold with_line held rows).known ≡ held.known || list_any is_row rows
+  known-rows : (rows : List (CellRow (List ℕ))) (held : FileCosts) → held.file ≡ file → (fold with_line held rows).known ≡ held.known || list_any is_row rows
   known-rows [] held is = or_none held.known
     where
       or_none : (b : Bool) → b ≡ b || false
@@ -128,7 +128,7 @@ module _ (file : List ℕ) where
 
   -- ---- cells
 
-  cells_positive : (k : ℕ) (cells : List (Cell (List ℕ))) → 0 < rows_cost in_file k cells → list_any is_row cells ≡ true
+  cells_positive : (k : ℕ) (cells : List (CellRow (List ℕ))) → 0 < rows_cost in_file k cells → list_any is_row cells ≡ true
   cells_positive k [] low = absurd (omega (arith, low))
   cells_positive k (r ∷ cells) low = go (in_file (place_of_row r)) (r.event == k) low (cells_positive k cells)
     where
@@ -136,7 +136,7 @@ module _ (file : List ℕ) where
       go true b low rest = refl
       go false b low rest = rest (omega (arith, low))
 
-  cell_there : (cells : List (Cell (List ℕ))) → HaveCosts cells → list_any is_row cells ≡ true → (k : ℕ) × (0 < rows_cost in_file k cells)
+  cell_there : (cells : List (CellRow (List ℕ))) → HaveCosts cells → list_any is_row cells ≡ true → (k : ℕ) × (0 < rows_cost in_file k cells)
   cell_there [] above is = absurd cc
   cell_there (r ∷ cells) above is = go (in_file (place_of_row r)) refl is (cell_there cells above.1)
     where
@@ -147,13 +147,13 @@ module _ (file : List ℕ) where
       go true here any rest = (r.event, subst (λ b. 0 < (if b then r.cost else 0) + rows_cost in_file r.event cells) (sym (both_true _ _ here (same_number r.event))) (omega (arith, low)))
       go false here any rest = let later = rest any in let some = later.1 in (later.0, omega (arith, some))
 
-  cells_know : (cells : List (Cell (List ℕ))) (records : List Record) → HaveCosts cells → ((passes : Spot → Bool) (k : ℕ) → rows_cost passes k cells ≡ self_sum passes k records)
+  cells_know : (cells : List (CellRow (List ℕ))) (records : List Record) → HaveCosts cells → ((passes : Spot → Bool) (k : ℕ) → rows_cost passes k cells ≡ self_sum passes k records)
       → list_any is_row cells ≡ knows_file file records
   cells_know cells records above same = same_tests _ _
       (λ is. let there = cell_there cells above is in self_positive there.0 records (subst (λ n. 0 < n) (same in_file there.0) there.1))
       (λ is. let there = self_there records is in cells_positive there.0 cells (subst (λ n. 0 < n) (sym (same in_file there.0)) there.1))
 
-  any_weighted : (coefs : List ℕ) (cells : List (Cell (List ℕ))) → list_any is_row (map (weighted coefs) cells) ≡ list_any is_row cells
+  any_weighted : (coefs : List ℕ) (cells : List (CellRow (List ℕ))) → list_any is_row (map (weighted coefs) cells) ≡ list_any is_row cells
   any_weighted coefs [] = refl
   any_weighted coefs (r ∷ cells) = ap (λ b. is_row r || b) (any_weighted coefs cells)
 

@@ -19,7 +19,7 @@ use Rattle.cost_rows.specs.KeySums.{cost_where, rows_of}
 use Rattle.cost_rows.specs.Merging.{sum_where, TellsApart}
 use Rattle.cost_rows.specs.Sums.{Spot}
 use Rattle.cost_rows.specs.declared.keys.Key.TheVariants.{Line}
-use Rattle.cost_rows.specs.declared.rows.Cell.{Cell}
+use Rattle.cost_rows.specs.declared.rows.CellRow.{CellRow}
 use Rattle.report_texts.specs.Costs.{EventCells, EventRecords, StandForEach, all_costs, all_rows}
 use Rattle.cost_reports.proofs.CostLemmas.{same_costs}
 use Rattle.report_texts.specs.Amounts.{amount_of, with_amount}
@@ -140,20 +140,20 @@ module _ (file : List ℕ) (passes : ℕ → Bool) where
       go true rest = ap (λ n. (if passes e.0.line then e.1 else 0) + n) rest
       go false rest = rest ∙ sym (none_before (cost_where Line there (rows_of costs)))
 
-  line-step : (held : FileCosts) (row : Cell (List ℕ)) (b : Bool)
+  line-step : (held : FileCosts) (row : CellRow (List ℕ)) (b : Bool)
       → sum_where passes (λ n. n) (if b then record { file = held.file; known = true; costs = with_amount nat_cmp held.costs row.line row.cost } else held).costs
       ≡ sum_where passes (λ n. n) held.costs + (if b && passes row.line then row.cost else 0)
   line-step held row true = sum-with nat_apart passes held.costs row.line row.cost
   line-step held row false = sym (no_more (sum_where passes (λ n. n) held.costs))
 
-  file-step : (held : FileCosts) (row : Cell (List ℕ)) → (with_line held row).file ≡ held.file
+  file-step : (held : FileCosts) (row : CellRow (List ℕ)) → (with_line held row).file ≡ held.file
   file-step held row = go (bytes_eq row.file held.file)
     where
       go : (b : Bool) → (if b then record { file = held.file; known = true; costs = with_amount nat_cmp held.costs row.line row.cost } else held).file ≡ held.file
       go true = refl
       go false = refl
 
-  rows-where : (rows : List (Cell (List ℕ))) (held : FileCosts) → held.file ≡ file → sum_where passes (λ n. n) (fold with_line held rows).costs ≡ sum_where passes (λ n. n) held.costs + cost_where Line there rows
+  rows-where : (rows : List (CellRow (List ℕ))) (held : FileCosts) → held.file ≡ file → sum_where passes (λ n. n) (fold with_line held rows).costs ≡ sum_where passes (λ n. n) held.costs + cost_where Line there rows
   rows-where [] held is = sym (no_more (sum_where passes (λ n. n) held.costs))
   rows-where (row ∷ rows) held is =
       let one = line-step held row (bytes_eq row.file held.file) ∙ ap (λ f. sum_where passes (λ n. n) held.costs + (if bytes_eq row.file f && passes row.line then row.cost else 0)) is in

@@ -13,7 +13,7 @@ use Rattle.csv.specs.declared.writer.Writer.{Writer}
 use Rattle.cost_rows.specs.Merging.{merge_all, seen}
 use Rattle.cost_rows.specs.Slots.{AreApart}
 use Rattle.cost_rows.specs.Stacks.{bytes_cmp, counts_added}
-use Rattle.cost_rows.specs.declared.rows.Cell.{Cell}
+use Rattle.cost_rows.specs.declared.rows.CellRow.{CellRow}
 use Rattle.report_texts.specs.Csv.{EventSpot}
 use Rattle.cost_exports.specs.declared.cells.HeldLine.{HeldLine}
 use Rattle.cost_exports.specs.declared.cells.HeldNames.{HeldNames}
@@ -29,7 +29,7 @@ pub record LineEvent : Type 0 where
   pub line : ℕ
   pub event : List ℕ
 
-abbrev pub names_of_row : Cell (List ℕ) → PlaceNames
+abbrev pub names_of_row : CellRow (List ℕ) → PlaceNames
 names_of_row r = record { object = r.object; file = r.file; function = r.function }
 
 abbrev pub names_cmp : PlaceNames → PlaceNames → Ordering

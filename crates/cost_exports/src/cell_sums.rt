@@ -8,7 +8,7 @@ ghost use Rattle.cost_exports.specs.Views.{held_names, names_of_row, slot_of, su
 use crate::cells::{HeldLine, HeldNames};
 use crate::places::Places;
 use crate::shared_names::SharedNames;
-use cost_rows::Cell;
+use cost_rows::CellRow;
 use std::alloc::{AllocError, Global};
 use std::marker::Model;
 use std::rc::RcSlice;
@@ -20,7 +20,7 @@ fn slot_of_row(
     shared: &mut SharedNames,
     recent: &mut Option<(HeldNames, usize)>,
     places: &mut Places,
-    row: &Cell<&[u8]>,
+    row: &CellRow<&[u8]>,
 ) -> Result<usize, AllocError>
     requires recent { IfSome recent.old (λ r. slot_of (held_names r.0) places.old.slots ≡ Some r.1) }
     ensures recent { IfSome recent.new (λ r. slot_of (held_names r.0) places.new.slots ≡ Some r.1) }
@@ -97,7 +97,7 @@ impl CellSums {
 
     /// Adds a cell's cost to that of its place in an event, whose name is given; a cost of 0 adds nothing.
     /// A refusal leaves the sums as they were.
-    pub fn add(&mut self, row: &Cell<&[u8]>, event: &[u8]) -> Result<(), AllocError>
+    pub fn add(&mut self, row: &CellRow<&[u8]>, event: &[u8]) -> Result<(), AllocError>
         requires small { amount_of self.old + row.now.cost < 2 ^ 112 }
         ensures ok { OnOk result (self.new ≡ with_cell self.old (plain_cell row.now) event.now) }
         ensures err { OnErr result (self.new ≡ self.old) }

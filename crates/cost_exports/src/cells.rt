@@ -3,7 +3,7 @@ ghost use Rattle.std.specs.Prelude.{◌≡◌, IsTrue, IfOk};
 ghost use Rattle.cost_rows.specs.Plain.{plain_cell};
 ghost use Rattle.cost_exports.specs.Views.{held_line, held_names, names_of_row};
 
-use cost_rows::Cell;
+use cost_rows::CellRow;
 use std::alloc::AllocError;
 use std::rc::RcSlice;
 
@@ -17,7 +17,7 @@ pub(crate) struct HeldNames {
 
 impl HeldNames {
     /// Whether these are the names of a row. Most rows that differ do so in the function.
-    pub(crate) fn are_of(&self, row: &Cell<&[u8]>) -> bool
+    pub(crate) fn are_of(&self, row: &CellRow<&[u8]>) -> bool
         ensures { IsTrue result → held_names self.now ≡ names_of_row (plain_cell row.now) }
     {
         self.function.as_slice() == row.function

@@ -1,7 +1,7 @@
 // Laws of the definitions, each the contract of a function that does nothing.
 ghost use Rattle.std.specs.Prelude.{◌≡◌, ℕ, ◌+◌, List, [], ◌∷◌, fold, map};
 ghost use Rattle.csv.specs.Reading.{default_config, records};
-ghost use Rattle.cost_rows.specs.declared.rows.StackCount.{StackCount};
+ghost use Rattle.cost_rows.specs.declared.rows.StackRow.{StackRow};
 ghost use Rattle.report_texts.specs.Costs.{EventCells, EventRecords, StandForEach, all_rows};
 ghost use Rattle.report_texts.specs.Inclusive.{SameStacks};
 ghost use Rattle.profile_records.specs.Stacks.{Seen};
@@ -44,7 +44,7 @@ pub fn csv_texts_read_back()
 /// Where rows of stacks sum to the stacks that were seen, for every test of their frames, they are the
 /// same stacks with the same counts.
 pub fn folded_stacks_sum_to_the_stacks()
-    ensures { (rows : List (StackCount (List ℕ))) (seen : List Seen) → SameStacks rows seen → folded_of_rows rows ≡ folded_of_stacks seen }
+    ensures { (rows : List (StackRow (List ℕ))) (seen : List Seen) → SameStacks rows seen → folded_of_rows rows ≡ folded_of_stacks seen }
 {}
 
 /// The text of stacks is accepted as a folded file, and is read as these stacks with these counts, line by

@@ -5,7 +5,7 @@ ghost use Rattle.cost_rows.specs.Plain.{plain_cell};
 ghost use Rattle.report_texts.specs.Amounts.{amount_of, with_amount};
 ghost use Rattle.report_texts.specs.Annotations.{cost_at, no_lines, with_line};
 
-use cost_rows::Cell;
+use cost_rows::CellRow;
 use std::alloc::{AllocError, Global};
 use std::collections::BTreeMap;
 use std::marker::Model;
@@ -94,7 +94,7 @@ impl LineSums {
 
     /// Adds a row, if it is of the file: its cost to that of its line. A row of cost 0, as one of another
     /// event, tells that the file is known. A refusal leaves the sums as they were.
-    pub fn add(&mut self, row: &Cell<&[u8]>) -> Result<(), AllocError>
+    pub fn add(&mut self, row: &CellRow<&[u8]>) -> Result<(), AllocError>
         requires small { amount_of self.old.costs + row.now.cost < 2 ^ 112 }
         ensures ok { OnOk result (self.new ≡ with_line self.old (plain_cell row.now)) }
         ensures err { OnErr result (self.new ≡ self.old) }

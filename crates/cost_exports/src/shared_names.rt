@@ -5,7 +5,7 @@ ghost use Rattle.cost_rows.specs.Plain.{plain_cell};
 ghost use Rattle.cost_exports.specs.Views.{held_names, names_of_row};
 
 use crate::cells::HeldNames;
-use cost_rows::Cell;
+use cost_rows::CellRow;
 use std::alloc::{AllocError, Global};
 use std::collections::BTreeMap;
 use std::rc::RcSlice;
@@ -69,7 +69,7 @@ impl SharedNames {
         &mut self,
         alloc: Global,
         before: Option<&HeldNames>,
-        row: &Cell<&[u8]>,
+        row: &CellRow<&[u8]>,
     ) -> Result<HeldNames, AllocError>
         ensures { IfOk result (λ names. held_names names ≡ names_of_row (plain_cell row.now)) }
     {

@@ -5,7 +5,7 @@ ghost use Rattle.cost_rows.specs.Stacks.{bytes_cmp, by_bytes};
 ghost use Rattle.report_texts.specs.Amounts.{amount_of, with_amount};
 ghost use Rattle.report_texts.specs.Folded.{with_stack};
 
-use cost_rows::StackCount;
+use cost_rows::StackRow;
 use std::alloc::{AllocError, Global};
 use std::collections::BTreeMap;
 use std::collections::btree_map::Iter;
@@ -78,7 +78,7 @@ impl StackSums {
 
     /// Adds a row's count to that of its stack; a count of 0 adds nothing. A refusal leaves the sums as
     /// they were.
-    pub fn add(&mut self, row: &StackCount<&[u8]>) -> Result<(), AllocError>
+    pub fn add(&mut self, row: &StackRow<&[u8]>) -> Result<(), AllocError>
         requires small { amount_of self.old + row.now.count < 2 ^ 112 }
         ensures ok { OnOk result (self.new ≡ with_stack self.old (plain_stack row.now)) }
         ensures err { OnErr result (self.new ≡ self.old) }

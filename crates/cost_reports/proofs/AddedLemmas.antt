@@ -8,7 +8,7 @@ use Rattle.cost_rows.specs.Merging.{merge_all}
 use Rattle.cost_rows.specs.Sums.{Spot}
 use Rattle.cost_rows.specs.declared.keys.Key.{Key}
 use Rattle.cost_rows.specs.declared.keys.Key.TheVariants.{Function}
-use Rattle.cost_rows.specs.declared.rows.Cell.{Cell}
+use Rattle.cost_rows.specs.declared.rows.CellRow.{CellRow}
 use Rattle.report_texts.specs.Calls.{Calls, CallsOfFunction, asked, other, calls_at, calls_by, with_calls}
 use Rattle.report_texts.specs.Functions.{is_one_function}
 use Rattle.report_texts.specs.Inclusive.{InclusiveCosts, InclusiveRow, OfSelf, OfCalls, OfStack, by_function, calls_in, functions_in, inclusive_rows, names_costs, no_costs, outward_costs, self_in, row_costs, rows_count, stacks_in, with_inclusive, with_outward, with_self, with_stack}
@@ -39,24 +39,24 @@ calls_come_to side f calls = calls_added (record { side = side; function = f; su
 
 -- ---- inclusive costs
 
-same_key : (s : Sums) (row : Cell (List ℕ)) → (with_row s row).key ≡ s.key
+same_key : (s : Sums) (row : CellRow (List ℕ)) → (with_row s row).key ≡ s.key
 same_key s row = go (nat_eq row.cost 0)
   where
     go : (b : Bool) → (if b then s else record { key = s.key; sums = sums_with (part_of s.key (place_of_row row)) row.cost s.sums }).key ≡ s.key
     go true = refl
     go false = refl
 
-pub keeps_key : (s : Sums) (cells : List (Cell (List ℕ))) → (fold with_row s cells).key ≡ s.key
+pub keeps_key : (s : Sums) (cells : List (CellRow (List ℕ))) → (fold with_row s cells).key ≡ s.key
 keeps_key s [] = refl
 keeps_key s (r ∷ cells) = keeps_key (with_row s r) cells ∙ same_key s r
 
 -- what a row adds
-abbrev cells_of : InclusiveRow → List (Cell (List ℕ))
+abbrev cells_of : InclusiveRow → List (CellRow (List ℕ))
 cells_of (OfSelf row) = row ∷ []
 cells_of (OfCalls c) = rows_of (outward_costs (c ∷ []))
 cells_of (OfStack row) = rows_of (names_costs row.count (functions_in row.stack))
 
-abbrev all_cells : List InclusiveRow → List (Cell (List ℕ))
+abbrev all_cells : List InclusiveRow → List (CellRow (List ℕ))
 all_cells [] = []
 all_cells (r ∷ rows) = cells_of r ++ all_cells rows
 
@@ -76,7 +76,7 @@ sums_added held (r ∷ rows) =
     ∙ ap (λ (s : Sums). s.sums) (sym (fold-append with_row (by_function held) (cells_of r) (all_cells rows)))
 
 module _ (passes : Spot → Bool) where
-  abbrev cost : List (Cell (List ℕ)) → ℕ
+  abbrev cost : List (CellRow (List ℕ)) → ℕ
   cost cells = cost_where Function passes cells
 
   one_outward : (c : Calls) (calls : List Calls) → cost (rows_of (outward_costs (c ∷ calls))) ≡ cost (rows_of (outward_costs (c ∷ []))) + cost (rows_of (outward_costs calls))
@@ -110,14 +110,14 @@ module _ (passes : Spot → Bool) where
       ∙ ap (λ n. cost (self_in rows) + n) (sym (ap (cost_where Function passes) (rows_append calls stacks) ∙ where_append Function passes (rows_of calls) (rows_of stacks)))
       ∙ sym (where_append Function passes (self_in rows) (rows_of (calls ++ stacks)))
 
-abbrev self_sum : List (Cell (List ℕ)) → ℕ
-self_sum own = sum_by (λ (r : Cell (List ℕ)). r.cost) own
+abbrev self_sum : List (CellRow (List ℕ)) → ℕ
+self_sum own = sum_by (λ (r : CellRow (List ℕ)). r.cost) own
 
 total_added : (held : InclusiveCosts) (rows : List InclusiveRow) → (fold with_inclusive held rows).total ≡ held.total + (self_sum (self_in rows) + rows_count (stacks_in rows))
 total_added held [] = let n : ℕ = held.total in let e : n ≡ n + (0 + 0) = omega arith in e
 total_added held (OfSelf row ∷ rows) =
     let rest = total_added (with_self held row) rows in
-    let here = sum_by-cons (λ (r : Cell (List ℕ)). r.cost) row (self_in rows) in
+    let here = sum_by-cons (λ (r : CellRow (List ℕ)). r.cost) row (self_in rows) in
     omega (arith, rest, here)
 total_added held (OfCalls c ∷ rows) = total_added (with_outward held c) rows
 total_added held (OfStack row ∷ rows) = let rest = total_added (with_stack held row) rows in omega (arith, rest)

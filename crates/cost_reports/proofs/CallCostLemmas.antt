@@ -7,7 +7,7 @@ use Rattle.profile_records.specs.Records.{Record, Own, Called}
 use Rattle.cost_rows.specs.Merging.{sum_where}
 use Rattle.cost_rows.specs.Sums.{Spot, caller_spot, callee_spot, call_sum, count_sum, has_call}
 use Rattle.cost_rows.specs.WalkSums.{caller_of_row, callee_of_row, calls_cost, calls_count, has_calls}
-use Rattle.cost_rows.specs.declared.rows.CallEdge.{CallEdge}
+use Rattle.cost_rows.specs.declared.rows.ArcRow.{ArcRow}
 use Rattle.cost_rows.proofs.KeysLemmas.{named_cmp-total, named_cmp-apart}
 use Rattle.report_texts.specs.Calls.{Calls, CallsRepresent, CallsRepresentEach, EventEdges, all_edges, all_calls, asked, other, calls_at, calls_by, calls_of, weighted_calls}
 use Rattle.report_texts.specs.Costs.{EventRecords}
@@ -90,7 +90,7 @@ module _ (side : CallSide) (f : Spot) (passes : Spot → Bool) where
       → chosen (record { caller = function_spot caller.object caller.function; callee = function_spot callee.object callee.function; sum = sum }) ≡ tests caller callee
   chosen_is caller callee sum = chosen_sides caller callee sum side refl
 
-  rows_value : (coefs : List ℕ) (edges : List (CallEdge (List ℕ) (List ℕ))) → sum_chosen first (map (weighted_calls coefs) edges) ≡ value coefs (λ k. calls_cost tests k edges)
+  rows_value : (coefs : List ℕ) (edges : List (ArcRow (List ℕ) (List ℕ))) → sum_chosen first (map (weighted_calls coefs) edges) ≡ value coefs (λ k. calls_cost tests k edges)
   rows_value coefs [] = sym (value_none coefs)
   rows_value coefs (r ∷ edges) =
       ap₂ ◌+◌
@@ -109,7 +109,7 @@ module _ (side : CallSide) (f : Spot) (passes : Spot → Bool) where
       (records_value coefs records)
       ∙ sym (value_sum coefs (λ k. if tests (caller_spot cost) (callee_spot callee) then slice_index cost.costs k else 0) (λ k. call_sum tests k records))
 
-  rows_count : (coefs : List ℕ) (edges : List (CallEdge (List ℕ) (List ℕ))) → sum_chosen second (map (weighted_calls coefs) edges) ≡ calls_count tests edges
+  rows_count : (coefs : List ℕ) (edges : List (ArcRow (List ℕ) (List ℕ))) → sum_chosen second (map (weighted_calls coefs) edges) ≡ calls_count tests edges
   rows_count coefs [] = refl
   rows_count coefs (r ∷ edges) =
       ap₂ ◌+◌ (ap (λ b. if b then r.count else 0) (chosen_is (caller_of_row r) (callee_of_row r) (weighted_calls coefs r).sum)) (rows_count coefs edges)
@@ -120,7 +120,7 @@ module _ (side : CallSide) (f : Spot) (passes : Spot → Bool) where
   records_count coefs (Called callee cost ∷ records) =
       ap₂ ◌+◌ (ap (λ b. if b then callee.count else 0) (chosen_is (caller_spot cost) (callee_spot callee) (pair (weighed coefs cost.costs) callee.count))) (records_count coefs records)
 
-  rows_any : (coefs : List ℕ) (edges : List (CallEdge (List ℕ) (List ℕ))) → any_chosen (map (weighted_calls coefs) edges) ≡ has_calls tests edges
+  rows_any : (coefs : List ℕ) (edges : List (ArcRow (List ℕ) (List ℕ))) → any_chosen (map (weighted_calls coefs) edges) ≡ has_calls tests edges
   rows_any coefs [] = refl
   rows_any coefs (r ∷ edges) = ap₂ ◌||◌ (chosen_is (caller_of_row r) (callee_of_row r) (weighted_calls coefs r).sum) (rows_any coefs edges)
 

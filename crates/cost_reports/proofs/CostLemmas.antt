@@ -11,7 +11,7 @@ use Rattle.cost_rows.specs.Keys.{part_of, place_of_row}
 use Rattle.cost_rows.specs.Sums.{Spot, spot_of, self_sum}
 use Rattle.cost_rows.specs.WalkSums.{rows_cost}
 use Rattle.cost_rows.specs.declared.keys.Key.{Key}
-use Rattle.cost_rows.specs.declared.rows.Cell.{Cell}
+use Rattle.cost_rows.specs.declared.rows.CellRow.{CellRow}
 use Rattle.report_texts.specs.Costs.{EventRecords, EventCells, StandForEach, costs_of, all_costs, costs_by, weighted, all_rows}
 use Rattle.cost_reports.proofs.KeyLemmas.{no_more, same_by_key, where_append, rows_append}
 
@@ -81,7 +81,7 @@ module _ (key : Key) (passes : Spot → Bool) where
   abbrev tests : Spot → Bool
   tests p = passes (part_of key p)
 
-  rows_value : (coefs : List ℕ) (cells : List (Cell (List ℕ))) → cost_where key passes (map (weighted coefs) cells) ≡ value coefs (λ k. rows_cost tests k cells)
+  rows_value : (coefs : List ℕ) (cells : List (CellRow (List ℕ))) → cost_where key passes (map (weighted coefs) cells) ≡ value coefs (λ k. rows_cost tests k cells)
   rows_value coefs [] = sym (value_none coefs)
   rows_value coefs (r ∷ cells) =
       ap₂ ◌+◌ (row_where (tests (place_of_row r)) coefs r.event r.cost) (rows_value coefs cells)

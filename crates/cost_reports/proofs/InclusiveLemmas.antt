@@ -10,8 +10,8 @@ use Rattle.cost_rows.specs.Sums.{Spot, caller_spot, callee_spot, call_sum}
 use Rattle.cost_rows.specs.StackSums.{frames_sum}
 use Rattle.cost_rows.specs.WalkSums.{caller_of_row, callee_of_row, calls_cost, stacks_count}
 use Rattle.cost_rows.specs.declared.keys.Key.TheVariants.{Function}
-use Rattle.cost_rows.specs.declared.rows.CallEdge.{CallEdge}
-use Rattle.cost_rows.specs.declared.rows.StackCount.{StackCount}
+use Rattle.cost_rows.specs.declared.rows.ArcRow.{ArcRow}
+use Rattle.cost_rows.specs.declared.rows.StackRow.{StackRow}
 use Rattle.report_texts.specs.Calls.{Calls, CallsRepresentEach, EventEdges, all_edges, all_calls, calls_of, weighted_calls}
 use Rattle.report_texts.specs.Costs.{EventCells, EventRecords, StandForEach, all_costs, all_rows}
 use Rattle.report_texts.specs.Functions.{function_spot, is_one_function}
@@ -88,13 +88,13 @@ same_weights weight xs ys same =
 
 -- ---- the functions of stacks
 
-abbrev of_rows : List (StackCount (List ℕ)) → List (List ℕ × ℕ)
-of_rows rows = map (λ (r : StackCount (List ℕ)). (r.stack, r.count)) rows
+abbrev of_rows : List (StackRow (List ℕ)) → List (List ℕ × ℕ)
+of_rows rows = map (λ (r : StackRow (List ℕ)). (r.stack, r.count)) rows
 
 abbrev of_seen : List Seen → List (List ℕ × ℕ)
 of_seen seen = map (λ (s : Seen). (s.stack.frames, s.stack.count)) seen
 
-tests_of_rows : (test : List ℕ → Bool) (rows : List (StackCount (List ℕ))) → test_sum test (of_rows rows) ≡ stacks_count test rows
+tests_of_rows : (test : List ℕ → Bool) (rows : List (StackRow (List ℕ))) → test_sum test (of_rows rows) ≡ stacks_count test rows
 tests_of_rows test [] = refl
 tests_of_rows test (r ∷ rows) = ap (λ n. (if test r.stack then r.count else 0) + n) (tests_of_rows test rows)
 
@@ -102,10 +102,10 @@ tests_of_seen : (test : List ℕ → Bool) (seen : List Seen) → test_sum test 
 tests_of_seen test [] = refl
 tests_of_seen test (s ∷ seen) = ap (λ n. (if test s.stack.frames then s.stack.count else 0) + n) (tests_of_seen test seen)
 
-same_tests : (rows : List (StackCount (List ℕ))) (seen : List Seen) → SameStacks rows seen → (test : List ℕ → Bool) → test_sum test (of_rows rows) ≡ test_sum test (of_seen seen)
+same_tests : (rows : List (StackRow (List ℕ))) (seen : List Seen) → SameStacks rows seen → (test : List ℕ → Bool) → test_sum test (of_rows rows) ≡ test_sum test (of_seen seen)
 same_tests rows seen same test = tests_of_rows test rows ∙ same test ∙ sym (tests_of_seen test seen)
 
-counts_of_rows : (rows : List (StackCount (List ℕ))) → rows_count rows ≡ test_sum (λ _. true) (of_rows rows)
+counts_of_rows : (rows : List (StackRow (List ℕ))) → rows_count rows ≡ test_sum (λ _. true) (of_rows rows)
 counts_of_rows [] = refl
 counts_of_rows (r ∷ rows) = ap (λ n. r.count + n) (counts_of_rows rows)
 
@@ -130,7 +130,7 @@ module _ (passes : Spot → Bool) where
   abbrev weight : List ℕ → ℕ
   weight frames = how_many (functions_in frames)
 
-  rows_where : (rows : List (StackCount (List ℕ))) → cost_where Function passes (rows_of (row_costs rows)) ≡ weight_sum weight (of_rows rows)
+  rows_where : (rows : List (StackRow (List ℕ))) → cost_where Function passes (rows_of (row_costs rows)) ≡ weight_sum weight (of_rows rows)
   rows_where [] = refl
   rows_where (r ∷ rows) =
       ap (cost_where Function passes) (rows_append (names_costs r.count (functions_in r.stack)) (row_costs rows))
@@ -144,7 +144,7 @@ module _ (passes : Spot → Bool) where
       ∙ where_append Function passes (rows_of (names_costs s.stack.count (functions_in s.stack.frames))) (rows_of (frame_costs seen))
       ∙ ap₂ ◌+◌ (names_where s.stack.count (functions_in s.stack.frames)) (seen_where seen)
 
-  same_frames : (rows : List (StackCount (List ℕ))) (seen : List Seen) → SameStacks rows seen
+  same_frames : (rows : List (StackRow (List ℕ))) (seen : List Seen) → SameStacks rows seen
       → cost_where Function passes (rows_of (row_costs rows)) ≡ cost_where Function passes (rows_of (frame_costs seen))
   same_frames rows seen same = rows_where rows ∙ same_weights weight (of_rows rows) (of_seen seen) (same_tests rows seen same) ∙ sym (seen_where seen)
 
@@ -172,7 +172,7 @@ module _ (passes : Spot → Bool) where
   sum_append [] ys = none_first (outward_sum ys)
   sum_append (x ∷ xs) ys = let rest = sum_append xs ys in omega (arith, rest)
 
-  edges_value : (coefs : List ℕ) (edges : List (CallEdge (List ℕ) (List ℕ))) → outward_sum (map (weighted_calls coefs) edges) ≡ value coefs (λ k. calls_cost outward k edges)
+  edges_value : (coefs : List ℕ) (edges : List (ArcRow (List ℕ) (List ℕ))) → outward_sum (map (weighted_calls coefs) edges) ≡ value coefs (λ k. calls_cost outward k edges)
   edges_value coefs [] = sym (value_none coefs)
   edges_value coefs (r ∷ edges) =
       ap₂ ◌+◌ (record_where (outward (caller_of_row r) (callee_of_row r)) coefs r.costs) (edges_value coefs edges)
@@ -201,7 +201,7 @@ module _ (passes : Spot → Bool) where
 
   -- ---- all together
 
-  same_where : (files : List EventRecords) (cells : List EventCells) (edges : List EventEdges) (rows : List (StackCount (List ℕ))) (seen : List Seen)
+  same_where : (files : List EventRecords) (cells : List EventCells) (edges : List EventEdges) (rows : List (StackRow (List ℕ))) (seen : List Seen)
       → StandForEach files cells → CallsRepresentEach files edges → SameStacks rows seen
       → cost_where Function passes (all_rows cells ++ rows_of (outward_costs (all_edges edges) ++ row_costs rows))
       ≡ cost_where Function passes (rows_of (all_costs files ++ (outward_costs (all_calls files) ++ frame_costs seen)))
@@ -217,7 +217,7 @@ module _ (passes : Spot → Bool) where
       both xs ys = ap (cost_where Function passes) (rows_append xs ys) ∙ where_append Function passes (rows_of xs) (rows_of ys)
 
 -- the inclusive costs of rows are those of the records and the stacks
-pub inclusive_are_records : (files : List EventRecords) (seen : List Seen) (cells : List EventCells) (edges : List EventEdges) (rows : List (StackCount (List ℕ)))
+pub inclusive_are_records : (files : List EventRecords) (seen : List Seen) (cells : List EventCells) (edges : List EventEdges) (rows : List (StackRow (List ℕ)))
     → StandForEach files cells → CallsRepresentEach files edges → SameStacks rows seen → inclusive_rows (all_rows cells) (all_edges edges) rows ≡ inclusive_costs files seen
 inclusive_are_records files seen cells edges rows own calls stacks =
     ap₂ (λ sums total. record { sums = sums; total = total })

@@ -5,7 +5,7 @@ use Rattle.cost_rows.specs.Keys.{place_of_row}
 use Rattle.cost_rows.specs.Merging.{seen}
 use Rattle.cost_rows.specs.Plain.{plain_cell}
 use Rattle.cost_rows.specs.Sums.{Spot}
-use Rattle.cost_rows.specs.declared.rows.Cell.{Cell}
+use Rattle.cost_rows.specs.declared.rows.CellRow.{CellRow}
 use Rattle.report_texts.specs.KeyReports.{rank_cmp, reaching, limited}
 use Rattle.report_texts.specs.Ranking.{ranked}
 use Rattle.report_texts.specs.Verifying.{Checked}
@@ -51,12 +51,12 @@ abbrev pub plain_check : Check → Checked
 plain_check c = record { event = c.event.now; sum = c.sum; stated = c.stated }
 
 -- the sum that a merged row has
-abbrev pub sum_of_row : Cell (List ℕ) → Spot × ℕ
+abbrev pub sum_of_row : CellRow (List ℕ) → Spot × ℕ
 sum_of_row r = (place_of_row r, r.cost)
 
 -- the sums that lent rows have, in their order
-abbrev pub given_sums : List (Cell (Bor (List ℕ))) → List (Spot × ℕ)
-given_sums rows = map (λ (r : Cell (Bor (List ℕ))). sum_of_row (plain_cell r)) rows
+abbrev pub given_sums : List (CellRow (Bor (List ℕ))) → List (Spot × ℕ)
+given_sums rows = map (λ (r : CellRow (Bor (List ℕ))). sum_of_row (plain_cell r)) rows
 
 -- the rows of some sums that a cut shows of a total
 abbrev pub shown_of : Cut → ℕ → List (Spot × ℕ) → List (Spot × ℕ)

@@ -9,7 +9,7 @@ ghost use Rattle.cost_reports.specs.Rows.{lent_place, plain_calls};
 use crate::pair_sums::PairSums;
 use crate::places::{LentPlace, function_place};
 use crate::rows::CallRow;
-use cost_rows::CallEdge;
+use cost_rows::ArcRow;
 use report_texts::{CallSide, Pair};
 use std::alloc::{AllocError, Global};
 use std::cmp::Reverse;
@@ -70,7 +70,7 @@ impl<'n> CallSums<'n> {
 
     /// Adds a row of calls, if they are to the function, or from it. A refusal leaves the sums as
     /// they were.
-    pub fn add(&mut self, row: &CallEdge<&'n [u8], u128>) -> Result<(), AllocError>
+    pub fn add(&mut self, row: &ArcRow<&'n [u8], u128>) -> Result<(), AllocError>
         requires small { AreBelow (firsts_of self.old.sums + row.now.costs) (seconds_of self.old.sums + row.now.count) }
         ensures ok { OnOk result (self.new ≡ with_calls self.old (calls_of_row row.now)) }
         ensures err { OnErr result (self.new ≡ self.old) }

@@ -11,7 +11,7 @@ use crate::frames::functions_in;
 use crate::lent_sums::LentSums;
 use crate::ranks::ranked_rows;
 use crate::rows::Row;
-use cost_rows::{Cell, Key, Merged, StackCount};
+use cost_rows::{CellRow, Key, Merged, StackRow};
 use std::alloc::{AllocError, Global};
 use std::collections::BTreeSet;
 use std::marker::Model;
@@ -46,7 +46,7 @@ fn add_functions(
     ensures key { merged.new.key ≡ merged.old.key }
 {
     for function in functions.iter() {
-        merged.add(&Cell {
+        merged.add(&CellRow {
             object: b"???".as_slice(),
             file: b"???".as_slice(),
             function: *function,
@@ -102,7 +102,7 @@ impl FrameSums {
 
     /// Adds a row of stacks of a folded run: its count once for each function that has a frame in it.
     /// They are at most as many as the frames have bytes, and one more: so much room is asked for.
-    pub fn add_stack(&mut self, row: &StackCount<&[u8]>) -> Result<(), AllocError>
+    pub fn add_stack(&mut self, row: &StackRow<&[u8]>) -> Result<(), AllocError>
         requires sum { total_of self.old.sums + (length row.now.stack.now + 1) * row.now.count < 2 ^ 112 }
         requires total { self.old.total + row.now.count < 2 ^ 112 }
         ensures { OnOk result (self.new ≡ with_stack self.old (plain_stack row.now)) }

@@ -8,7 +8,7 @@ ghost use Rattle.cost_reports.specs.Rows.{given_sums, plain_rows};
 
 use crate::ranks::{cost_of, shown_rows};
 use crate::rows::Row;
-use cost_rows::{Cell, Key};
+use cost_rows::{CellRow, Key};
 use report_texts::Cut;
 use std::alloc::{AllocError, Global};
 use std::marker::Model;
@@ -39,7 +39,7 @@ impl<'a> Model for Report<'a> {
 pub fn by<'a>(
     alloc: Global,
     key: Key,
-    sums: &[Cell<&'a [u8]>],
+    sums: &[CellRow<&'a [u8]>],
     total: u128,
     cut: Cut,
 ) -> Result<Report<'a>, AllocError>

@@ -4,8 +4,8 @@ ghost use Rattle.cost_rows.specs.KeySums.{total_of, cost_where, rows_of, sums_by
 ghost use Rattle.cost_rows.specs.Merging.{sum_where};
 ghost use Rattle.cost_rows.specs.Sums.{Spot};
 ghost use Rattle.cost_rows.specs.declared.keys.Key.{Key};
-ghost use Rattle.cost_rows.specs.declared.rows.Cell.{Cell};
-ghost use Rattle.cost_rows.specs.declared.rows.StackCount.{StackCount};
+ghost use Rattle.cost_rows.specs.declared.rows.CellRow.{CellRow};
+ghost use Rattle.cost_rows.specs.declared.rows.StackRow.{StackRow};
 ghost use Rattle.profile_records.specs.Stacks.{Seen};
 ghost use Rattle.report_texts.specs.Calls.{Calls, CallsRepresentEach, EventEdges, HaveFunctions, all_edges, all_calls, calls_by, sum_of, totals_of, with_calls};
 ghost use Rattle.report_texts.specs.Costs.{EventRecords, EventCells, StandForEach, all_costs, all_rows, costs_by};
@@ -21,8 +21,8 @@ ghost use Rattle.report_texts.specs.declared.cuts.Cut.{Cut};
 /// were added, whatever the key.
 pub fn shown_and_rest_are_the_total()
     ensures parts { (key : Key) (cut : Cut) (sums : List (Spot × ℕ)) → let r = report_of key cut sums in total_of r.rows + r.rest ≡ r.total }
-    ensures whole { (key : Key) (cut : Cut) (rows : List (Cell (List ℕ)))
-        → (report_of key cut (sums_by key rows)).total ≡ sum_by (λ (r : Cell (List ℕ)). r.cost) rows }
+    ensures whole { (key : Key) (cut : Cut) (rows : List (CellRow (List ℕ)))
+        → (report_of key cut (sums_by key rows)).total ≡ sum_by (λ (r : CellRow (List ℕ)). r.cost) rows }
 {}
 
 /// Without a limit a report shows the shortest beginning of the ranked sums that reaches the
@@ -35,9 +35,9 @@ pub fn the_fewest_rows_are_shown()
 /// Rows that cost the same for every test of the parts of places that a key tells have equal sums, so
 /// every report of them is the same. Rows that were merged before are such rows.
 pub fn equal_costs_have_equal_sums()
-    ensures same { (key : Key) (rows others : List (Cell (List ℕ)))
+    ensures same { (key : Key) (rows others : List (CellRow (List ℕ)))
         → ((passes : Spot → Bool) → cost_where key passes rows ≡ cost_where key passes others) → sums_by key rows ≡ sums_by key others }
-    ensures merged { (key : Key) (rows : List (Cell (List ℕ))) → sums_by key (rows_of (sums_by key rows)) ≡ sums_by key rows }
+    ensures merged { (key : Key) (rows : List (CellRow (List ℕ))) → sums_by key (rows_of (sums_by key rows)) ≡ sums_by key rows }
 {}
 
 /// Where the cells of each run sum to the self records of its file, for every test of places and
@@ -80,7 +80,7 @@ pub fn calls_sum_to_the_records()
 /// Where cells, rows of calls and rows of stacks sum to the records and the stacks of their files,
 /// the inclusive costs of the rows are those of the files.
 pub fn inclusive_costs_sum_to_the_records()
-    ensures { (files : List EventRecords) (seen : List Seen) (cells : List EventCells) (calls : List EventEdges) (rows : List (StackCount (List ℕ)))
+    ensures { (files : List EventRecords) (seen : List Seen) (cells : List EventCells) (calls : List EventEdges) (rows : List (StackRow (List ℕ)))
         → StandForEach files cells → CallsRepresentEach files calls → SameStacks rows seen
         → inclusive_rows (all_rows cells) (all_edges calls) rows ≡ inclusive_costs files seen }
 {}

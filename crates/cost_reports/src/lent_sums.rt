@@ -7,7 +7,7 @@ ghost use Rattle.cost_reports.specs.InStep.{IsInOrder};
 ghost use Rattle.cost_reports.specs.Rows.{lent_place, lent_sums};
 
 use crate::places::{LentPlace, part_of_row};
-use cost_rows::{Cell, Key};
+use cost_rows::{CellRow, Key};
 use std::alloc::{AllocError, Global};
 use std::collections::BTreeMap;
 use std::collections::btree_map::Iter;
@@ -90,7 +90,7 @@ impl<'n> LentSums<'n> {
 
     /// Adds a row's cost to the sum of the part of its place that the key tells; a cost of 0 adds nothing. A refusal
     /// leaves the sums as they were.
-    pub fn add(&mut self, row: &Cell<&'n [u8]>) -> Result<(), AllocError>
+    pub fn add(&mut self, row: &CellRow<&'n [u8]>) -> Result<(), AllocError>
         requires small { total_of self.old.sums + row.now.cost < 2 ^ 112 }
         ensures ok { OnOk result (self.new ≡ with_row self.old (plain_cell row.now)) }
         ensures total { OnOk result (total_of self.new.sums ≡ total_of self.old.sums + row.now.cost) }

@@ -5,7 +5,7 @@ ghost use Rattle.cost_rows.specs.Plain.{plain_cell};
 ghost use Rattle.report_texts.specs.Functions.{function_spot};
 ghost use Rattle.cost_reports.specs.Rows.{lent_place};
 
-use cost_rows::{Cell, Key};
+use cost_rows::{CellRow, Key};
 
 /// A place by names that are lent; the parts outside a key are `???` and 0.
 #[derive(Clone, Copy, PartialEq, Eq, PartialOrd, Ord)]
@@ -18,7 +18,7 @@ pub(crate) struct LentPlace<'a> {
 }
 
 /// The place of a row.
-pub(crate) fn place_of_row<'a>(row: &Cell<&'a [u8]>) -> LentPlace<'a>
+pub(crate) fn place_of_row<'a>(row: &CellRow<&'a [u8]>) -> LentPlace<'a>
     ensures { lent_place result ≡ place_of_row (plain_cell row.now) }
 {
     LentPlace {
@@ -53,7 +53,7 @@ const NO_PART: LentPlace<'static> = LentPlace {
 };
 
 /// The part of a row's place that a key tells.
-pub(crate) fn part_of_row<'a>(key: Key, row: &Cell<&'a [u8]>) -> LentPlace<'a>
+pub(crate) fn part_of_row<'a>(key: Key, row: &CellRow<&'a [u8]>) -> LentPlace<'a>
     ensures { lent_place result ≡ part_of key (place_of_row (plain_cell row.now)) }
 {
     match key {

@@ -9,13 +9,13 @@ ghost use Rattle.cost_reports.specs.Rows.{given_sums, plain_row, plain_rows, sho
 use crate::lent_sums::LentSums;
 use crate::places::place_of_row;
 use crate::rows::Row;
-use cost_rows::Cell;
+use cost_rows::CellRow;
 use report_texts::Cut;
 use std::alloc::{AllocError, Global};
 use std::cmp::Reverse;
 
 /// A sum as a row.
-fn row_of<'a>(row: &Cell<&'a [u8]>) -> Row<'a>
+fn row_of<'a>(row: &CellRow<&'a [u8]>) -> Row<'a>
     ensures { plain_row result ≡ sum_of_row (plain_cell row.now) }
 {
     Row {
@@ -25,7 +25,7 @@ fn row_of<'a>(row: &Cell<&'a [u8]>) -> Row<'a>
 }
 
 /// Sums as rows, as they come.
-fn rows_of<'a>(alloc: Global, sums: &[Cell<&'a [u8]>]) -> Result<Vec<Row<'a>>, AllocError>
+fn rows_of<'a>(alloc: Global, sums: &[CellRow<&'a [u8]>]) -> Result<Vec<Row<'a>>, AllocError>
     ensures { IfOk result (λ rows. plain_rows rows.items ≡ given_sums sums.now) }
 {
     let mut rows = Vec::with_capacity(alloc, sums.len())?;
@@ -105,7 +105,7 @@ fn keep_first(rows: &mut Vec<Row<'_>>, limit: Option<u64>)
 /// The rows of some sums that a report of so great a total shows.
 pub(crate) fn shown_rows<'a>(
     alloc: Global,
-    sums: &[Cell<&'a [u8]>],
+    sums: &[CellRow<&'a [u8]>],
     total: u128,
     cut: Cut,
 ) -> Result<Vec<Row<'a>>, AllocError>

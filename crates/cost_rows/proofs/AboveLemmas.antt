@@ -5,7 +5,7 @@ use Rattle.cost_rows.specs.Above.{rows_above}
 use Rattle.cost_rows.specs.Walks.{HaveCosts, HaveCounts, cell_named, named_cells, counted_stacks}
 use Rattle.cost_rows.specs.ByNumber.{numbered_cell, numbered_at, numbered_cells}
 use Rattle.cost_rows.specs.declared.places.CellPlace.{CellPlace}
-use Rattle.cost_rows.specs.declared.rows.Cell.{Cell}
+use Rattle.cost_rows.specs.declared.rows.CellRow.{CellRow}
 
 -- what holds of each row of an amount above 0 holds of all
 pub all-above : {R : Type 0} (P : R → Type 0) (row : ℕ → ℕ → R) → ((k n : ℕ) → 0 < n → P (row k n)) → (place : ℕ) (ns : List ℕ) → AllByRecursion P (rows_above row place ns)
@@ -44,18 +44,18 @@ above-more row place (first ∷ ns) n = go (nat_lt 0 first) (above-more row (suc
 
 -- ---- what is walked
 
-named-costs : (names : List (List ℕ)) (rows : List (Cell ℕ)) → AllByRecursion (λ (r : Cell ℕ). 0 < r.cost) rows → HaveCosts (map (cell_named names) rows)
+named-costs : (names : List (List ℕ)) (rows : List (CellRow ℕ)) → AllByRecursion (λ (r : CellRow ℕ). 0 < r.cost) rows → HaveCosts (map (cell_named names) rows)
 named-costs names [] all = tt
 named-costs names (r ∷ rows) all = (all.0, named-costs names rows all.1)
 
-both-have : (xs ys : List (Cell ℕ)) → AllByRecursion (λ (r : Cell ℕ). 0 < r.cost) xs → AllByRecursion (λ (r : Cell ℕ). 0 < r.cost) ys → AllByRecursion (λ (r : Cell ℕ). 0 < r.cost) (xs ++ ys)
+both-have : (xs ys : List (CellRow ℕ)) → AllByRecursion (λ (r : CellRow ℕ). 0 < r.cost) xs → AllByRecursion (λ (r : CellRow ℕ). 0 < r.cost) ys → AllByRecursion (λ (r : CellRow ℕ). 0 < r.cost) (xs ++ ys)
 both-have [] ys some more = more
 both-have (x ∷ xs) ys some more = (some.0, both-have xs ys some.1 more)
 
-numbered-costs : (cells : List (CellPlace × List ℕ)) → AllByRecursion (λ (r : Cell ℕ). 0 < r.cost) (numbered_cells cells)
+numbered-costs : (cells : List (CellPlace × List ℕ)) → AllByRecursion (λ (r : CellRow ℕ). 0 < r.cost) (numbered_cells cells)
 numbered-costs [] = tt
 numbered-costs (e ∷ cells) =
-    both-have (numbered_at e.0 0 e.1) (numbered_cells cells) (all-above (λ (r : Cell ℕ). 0 < r.cost) (numbered_cell e.0) (λ event cost above. above) 0 e.1) (numbered-costs cells)
+    both-have (numbered_at e.0 0 e.1) (numbered_cells cells) (all-above (λ (r : CellRow ℕ). 0 < r.cost) (numbered_cell e.0) (λ event cost above. above) 0 e.1) (numbered-costs cells)
 
 -- no cell that is walked costs 0
 pub cells-above : (names : List (List ℕ)) (cells : List (CellPlace × List ℕ)) → HaveCosts (named_cells names cells)

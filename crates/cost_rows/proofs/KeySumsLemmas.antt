@@ -12,7 +12,7 @@ use Rattle.cost_rows.specs.Merging.{merge, sum_where}
 use Rattle.cost_rows.specs.Stacks.{counts_added}
 use Rattle.cost_rows.specs.KeySums.{AreSums, Sums, with_row, total_of, cost_where}
 use Rattle.cost_rows.specs.declared.keys.Key.{Key}
-use Rattle.cost_rows.specs.declared.rows.Cell.{Cell}
+use Rattle.cost_rows.specs.declared.rows.CellRow.{CellRow}
 use Rattle.cost_rows.proofs.KeysLemmas.{named_cmp-total, named_cmp-apart}
 use Rattle.cost_rows.proofs.MergeLemmas.{sum-merge, sorted-merge}
 
@@ -20,14 +20,14 @@ nothing : (b : Bool) (cost : ℕ) → nat_eq cost 0 ≡ true → (if b then cost
 nothing true cost h = eqb-true cost 0 h
 nothing false cost h = refl
 
-sum-row : (key : Key) (passes : Spot → Bool) (sums : List (Spot × ℕ)) (row : Cell (List ℕ))
+sum-row : (key : Key) (passes : Spot → Bool) (sums : List (Spot × ℕ)) (row : CellRow (List ℕ))
     → (sum_where passes (λ n. n) (with_row (record { key = key; sums = sums }) row).sums ≡ sum_where passes (λ n. n) sums + (if passes (part_of key (place_of_row row)) then row.cost else 0)) × ((with_row (record { key = key; sums = sums }) row).key ≡ key)
 sum-row key passes sums row = elim (cases_Bool (nat_eq row.cost 0)) [
   | inl none ↦ rw none ((let e = nothing (passes (part_of key (place_of_row row))) row.cost none in omega (arith, e)), refl)
   | inr some ↦ rw some (sum-merge named_cmp-apart counts_added passes (λ n. n) (λ x y. refl) sums (part_of key (place_of_row row)) row.cost, refl)
 ]
 
-pub sums-rows : (passes : Spot → Bool) (rows : List (Cell (List ℕ))) (s : Sums) → sum_where passes (λ n. n) (fold with_row s rows).sums ≡ sum_where passes (λ n. n) s.sums + cost_where s.key passes rows
+pub sums-rows : (passes : Spot → Bool) (rows : List (CellRow (List ℕ))) (s : Sums) → sum_where passes (λ n. n) (fold with_row s rows).sums ≡ sum_where passes (λ n. n) s.sums + cost_where s.key passes rows
 sums-rows passes [] s = let n : ℕ = sum_where passes (λ n. n) s.sums in let k : n ≡ n + 0 = omega arith in k
 sums-rows passes (row ∷ rows) s =
     let one = sum-row s.key passes s.sums row in
@@ -50,7 +50,7 @@ positive : (n : ℕ) → nat_eq n 0 ≡ false → 0 < n
 positive zero h = cc
 positive (suc n) h = omega arith
 
-sums-row : (s : Sums) (row : Cell (List ℕ)) → AreSums s.sums → AreSums (with_row s row).sums
+sums-row : (s : Sums) (row : CellRow (List ℕ)) → AreSums s.sums → AreSums (with_row s row).sums
 sums-row s row are = elim (cases_Bool (nat_eq row.cost 0)) [
   | inl none ↦ rw none are
   | inr some ↦ rw some (record {
@@ -59,7 +59,7 @@ sums-row s row are = elim (cases_Bool (nat_eq row.cost 0)) [
   })
 ]
 
-pub sums-are : (rows : List (Cell (List ℕ))) (s : Sums) → AreSums s.sums → AreSums (fold with_row s rows).sums
+pub sums-are : (rows : List (CellRow (List ℕ))) (s : Sums) → AreSums s.sums → AreSums (fold with_row s rows).sums
 sums-are [] s are = are
 sums-are (row ∷ rows) s are = sums-are rows (with_row s row) (sums-row s row are)
 

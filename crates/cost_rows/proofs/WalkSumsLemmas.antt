@@ -8,7 +8,7 @@ use Rattle.cost_rows.specs.Sums.{Spot, spot_at, callee_at, passing_cell, passing
 use Rattle.cost_rows.specs.ByNumber.{numbered_cell, numbered_at, numbered_cells}
 use Rattle.cost_rows.specs.Walks.{cell_named, named_cells, named_calls, counted_stacks}
 use Rattle.cost_rows.specs.WalkSums.{rows_cost, calls_cost, calls_count, has_calls, stacks_count}
-use Rattle.cost_rows.specs.declared.rows.Cell.{Cell}
+use Rattle.cost_rows.specs.declared.rows.CellRow.{CellRow}
 use Rattle.cost_rows.specs.declared.places.CellPlace.{CellPlace}
 use Rattle.cost_rows.specs.declared.places.Call.{Call}
 use Rattle.cost_rows.specs.Calls.{Calls}
@@ -70,7 +70,7 @@ rows-at passes k names p e (suc n ∷ costs) =
     ∙ ap (λ m. (if passes (cell_spot names p) && (e == k) then suc n else 0) + m) (rows-at passes k names p (suc e) costs)
     ∙ one_more (passes (cell_spot names p)) (e == k) (suc n) (column_from (suc e) k costs)
 
-rows-append : (passes : Spot → Bool) (k : ℕ) (xs ys : List (Cell (List ℕ))) → rows_cost passes k (xs ++ ys) ≡ rows_cost passes k xs + rows_cost passes k ys
+rows-append : (passes : Spot → Bool) (k : ℕ) (xs ys : List (CellRow (List ℕ))) → rows_cost passes k (xs ++ ys) ≡ rows_cost passes k xs + rows_cost passes k ys
 rows-append passes k [] ys = let n : ℕ = rows_cost passes k ys in let e : n ≡ 0 + n = omega arith in e
 rows-append passes k (x ∷ xs) ys =
     let n : ℕ = rows_cost passes k (x ∷ []) in

@@ -5,25 +5,25 @@ use Rattle.cost_rows.specs.Above.{rows_above}
 use Rattle.cost_rows.specs.declared.places.CellPlace.{CellPlace}
 use Rattle.cost_rows.specs.declared.places.Call.{Call}
 use Rattle.cost_rows.specs.Calls.{Calls}
-use Rattle.cost_rows.specs.declared.rows.Cell.{Cell}
-use Rattle.cost_rows.specs.declared.rows.CallEdge.{CallEdge}
+use Rattle.cost_rows.specs.declared.rows.CellRow.{CellRow}
+use Rattle.cost_rows.specs.declared.rows.ArcRow.{ArcRow}
 use Rattle.cost_rows.specs.declared.numbered.CallSum.{CallSum}
 use Rattle.cost_rows.specs.declared.numbered.CellSum.{CellSum}
 
 -- the row of an event's sum at a place
-abbrev pub numbered_cell : CellPlace → ℕ → ℕ → Cell ℕ
+abbrev pub numbered_cell : CellPlace → ℕ → ℕ → CellRow ℕ
 numbered_cell p event cost =
     record { object = p.place.object; file = p.place.file; function = p.place.function; line = p.place.line; thread = p.thread; event = event; cost = cost }
 
 -- the rows of a place, from an event on
-abbrev pub numbered_at : CellPlace → ℕ → List ℕ → List (Cell ℕ)
+abbrev pub numbered_at : CellPlace → ℕ → List ℕ → List (CellRow ℕ)
 numbered_at p event costs = rows_above (numbered_cell p) event costs
 
-abbrev pub numbered_cells : List (CellPlace × List ℕ) → List (Cell ℕ)
+abbrev pub numbered_cells : List (CellPlace × List ℕ) → List (CellRow ℕ)
 numbered_cells [] = []
 numbered_cells (e ∷ cells) = numbered_at e.0 0 e.1 ++ numbered_cells cells
 
-abbrev pub numbered_call : Call × Calls → CallEdge ℕ (List ℕ)
+abbrev pub numbered_call : Call × Calls → ArcRow ℕ (List ℕ)
 numbered_call e = record {
   object = e.0.place.object;
   file = e.0.place.file;
@@ -36,11 +36,11 @@ numbered_call e = record {
   costs = e.1.costs;
 }
 
-abbrev pub numbered_calls : List (Call × Calls) → List (CallEdge ℕ (List ℕ))
+abbrev pub numbered_calls : List (Call × Calls) → List (ArcRow ℕ (List ℕ))
 numbered_calls calls = map numbered_call calls
 
 -- a row as the code lends it, without where its costs lie in memory
-abbrev pub plain_numbered : CallEdge ℕ (Bor (List ℕ)) → CallEdge ℕ (List ℕ)
+abbrev pub plain_numbered : ArcRow ℕ (Bor (List ℕ)) → ArcRow ℕ (List ℕ)
 plain_numbered r = record {
   object = r.object;
   file = r.file;

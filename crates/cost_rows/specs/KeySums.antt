@@ -8,7 +8,7 @@ use Rattle.cost_rows.specs.Keys.{named_cmp, part_of, place_of_row}
 use Rattle.cost_rows.specs.Merging.{merge, sum_where}
 use Rattle.cost_rows.specs.Stacks.{counts_added}
 use Rattle.cost_rows.specs.declared.keys.Key.{Key}
-use Rattle.cost_rows.specs.declared.rows.Cell.{Cell}
+use Rattle.cost_rows.specs.declared.rows.CellRow.{CellRow}
 
 -- what rows are added up by, and a sum for each part of a place, in order
 pub record Sums : Type 0 where
@@ -20,7 +20,7 @@ abbrev pub sums_with : Spot → ℕ → List (Spot × ℕ) → List (Spot × ℕ
 sums_with part cost sums = merge named_cmp counts_added sums part cost
 
 -- a row's cost is added at its part; a cost of 0 adds nothing
-abbrev pub with_row : Sums → Cell (List ℕ) → Sums
+abbrev pub with_row : Sums → CellRow (List ℕ) → Sums
 with_row s row =
     if nat_eq row.cost 0 then s
     else record { key = s.key; sums = sums_with (part_of s.key (place_of_row row)) row.cost s.sums }
@@ -30,17 +30,17 @@ abbrev pub total_of : List (Spot × ℕ) → ℕ
 total_of = sum_where (λ _. true) (λ n. n)
 
 -- sums as rows, of event 0
-abbrev pub rows_of : List (Spot × ℕ) → List (Cell (List ℕ))
+abbrev pub rows_of : List (Spot × ℕ) → List (CellRow (List ℕ))
 rows_of [] = []
 rows_of (e ∷ sums) = record { object = e.0.object; file = e.0.file; function = e.0.function; line = e.0.line; thread = e.0.thread; event = 0; cost = e.1 } ∷ rows_of sums
 
 -- what rows cost at the parts of their places that pass a test
-abbrev pub cost_where : Key → (Spot → Bool) → List (Cell (List ℕ)) → ℕ
+abbrev pub cost_where : Key → (Spot → Bool) → List (CellRow (List ℕ)) → ℕ
 cost_where key passes [] = 0
 cost_where key passes (row ∷ rows) = (if passes (part_of key (place_of_row row)) then row.cost else 0) + cost_where key passes rows
 
 -- the sums of rows that are added one after another
-abbrev pub sums_by : Key → List (Cell (List ℕ)) → List (Spot × ℕ)
+abbrev pub sums_by : Key → List (CellRow (List ℕ)) → List (Spot × ℕ)
 sums_by key rows = (fold with_row (record { key = key; sums = [] }) rows).sums
 
 -- each part stands once, in order, with a sum above 0
@@ -49,6 +49,6 @@ pub record AreSums (sums : List (Spot × ℕ)) : Type 0 where
   pub above : AllByRecursion (λ n. 0 < n) (values_of sums)
 
 -- for every test of the parts of places that a key tells, the sums that pass are what the rows cost there
-pub record AddUpBy (key : Key) (rows : List (Cell (List ℕ))) : Type 0 where
+pub record AddUpBy (key : Key) (rows : List (CellRow (List ℕ))) : Type 0 where
   pub sums : (passes : Spot → Bool) → sum_where passes (λ n. n) (sums_by key rows) ≡ cost_where key passes rows
   pub are : AreSums (sums_by key rows)

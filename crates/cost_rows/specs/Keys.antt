@@ -9,7 +9,7 @@ use Rattle.cost_rows.specs.Sums.{Spot}
 use Rattle.cost_rows.specs.declared.keys.Key.{Key}
 use Rattle.cost_rows.specs.declared.keys.LentPart.{LentPart}
 use Rattle.cost_rows.specs.declared.keys.Part.{Part}
-use Rattle.cost_rows.specs.declared.rows.Cell.{Cell}
+use Rattle.cost_rows.specs.declared.rows.CellRow.{CellRow}
 use Rattle.cost_rows.specs.declared.keys.Key.TheVariants.{Object, File, Function, Line, Thread}
 
 -- the part of a place that a key tells; the others are unknown
@@ -37,7 +37,7 @@ abbrev pub plain_part : LentPart → Spot
 plain_part p = record { object = p.object.now; file = p.file.now; function = p.function.now; line = p.line; thread = p.thread }
 
 -- the place of a row
-abbrev pub place_of_row : Cell (List ℕ) → Spot
+abbrev pub place_of_row : CellRow (List ℕ) → Spot
 place_of_row r = record { object = r.object; file = r.file; function = r.function; line = r.line; thread = r.thread }
 
 -- sums by part, the parts as plain data

@@ -1,14 +1,14 @@
 -- Rows as the code lends them, without where their bytes lie in memory.
 use Rattle.std.specs.Prelude.{ℕ, List}
 use Rattle.std.specs.Borrow.{Bor}
-use Rattle.cost_rows.specs.declared.rows.Cell.{Cell}
-use Rattle.cost_rows.specs.declared.rows.CallEdge.{CallEdge}
-use Rattle.cost_rows.specs.declared.rows.StackCount.{StackCount}
+use Rattle.cost_rows.specs.declared.rows.CellRow.{CellRow}
+use Rattle.cost_rows.specs.declared.rows.ArcRow.{ArcRow}
+use Rattle.cost_rows.specs.declared.rows.StackRow.{StackRow}
 
-abbrev pub plain_cell : Cell (Bor (List ℕ)) → Cell (List ℕ)
+abbrev pub plain_cell : CellRow (Bor (List ℕ)) → CellRow (List ℕ)
 plain_cell r = record { object = r.object.now; file = r.file.now; function = r.function.now; line = r.line; thread = r.thread; event = r.event; cost = r.cost }
 
-abbrev pub plain_call : CallEdge (Bor (List ℕ)) (Bor (List ℕ)) → CallEdge (List ℕ) (List ℕ)
+abbrev pub plain_call : ArcRow (Bor (List ℕ)) (Bor (List ℕ)) → ArcRow (List ℕ) (List ℕ)
 plain_call r = record {
   object = r.object.now;
   file = r.file.now;
@@ -21,5 +21,5 @@ plain_call r = record {
   costs = r.costs.now;
 }
 
-abbrev pub plain_stack : StackCount (Bor (List ℕ)) → StackCount (List ℕ)
+abbrev pub plain_stack : StackRow (Bor (List ℕ)) → StackRow (List ℕ)
 plain_stack r = record { stack = r.stack.now; count = r.count }

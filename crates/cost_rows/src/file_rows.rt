@@ -66,7 +66,7 @@ impl FileRows {
 
     /// The sums of calls, every one of them, in the order of the numbers of their names; the line
     /// comes after the caller's names. A column that is absent is 0. Takes no memory.
-    pub fn calls(&self) -> CallWalk<'_>
+    pub fn arcs(&self) -> CallWalk<'_>
         ensures { map (edge_named result.names.now) result.rest ≡ named_calls (content_of self.now).names (content_of self.now).calls }
     {
         Walk {

@@ -4,7 +4,7 @@ ghost use Rattle.cost_rows.specs.Keys.{part_of, plain_part, plain_place, place_o
 ghost use Rattle.cost_rows.specs.Plain.{plain_cell};
 ghost use Rattle.cost_rows.specs.Slots.{at_line};
 
-use crate::rows::Cell;
+use crate::rows::CellRow;
 use std::alloc::{AllocError, Global};
 
 /// What rows are added up by: objects; files; functions, each of its object; lines, each of its file;
@@ -30,7 +30,7 @@ pub(crate) struct LentPart<'a> {
 
 impl Key {
     /// The part of a row's place that the key tells.
-    pub(crate) fn part<'a>(self, row: &Cell<&'a [u8]>) -> LentPart<'a>
+    pub(crate) fn part<'a>(self, row: &CellRow<&'a [u8]>) -> LentPart<'a>
         ensures { plain_part result ≡ part_of self (place_of_row (plain_cell row.now)) }
     {
         let unknown = b"???".as_slice();

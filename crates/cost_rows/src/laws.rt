@@ -12,7 +12,7 @@ ghost use Rattle.cost_rows.specs.Sums.{content_of_records, SumsToRecords, IsInOr
 ghost use Rattle.cost_rows.specs.WalkSums.{WalksSum};
 ghost use Rattle.cost_rows.specs.Walks.{named_cells, counted_stacks, HaveCosts, HaveCounts};
 ghost use Rattle.cost_rows.specs.declared.keys.Key.{Key};
-ghost use Rattle.cost_rows.specs.declared.rows.Cell.{Cell};
+ghost use Rattle.cost_rows.specs.declared.rows.CellRow.{CellRow};
 
 /// Equal numbers are given exactly to equal names: a number's name has that number and no other, and
 /// of two names that are held, the numbers are equal exactly where the names are. A further name
@@ -66,5 +66,5 @@ pub fn walked_rows_sum_to_the_sums()
 /// key tells, the sums of the parts that pass are what the rows cost there. Each part stands once, in
 /// order, with a sum above 0.
 pub fn rows_add_up_by_key()
-    ensures { (key : Key) (rows : List (Cell (List ℕ))) → AddUpBy key rows }
+    ensures { (key : Key) (rows : List (CellRow (List ℕ))) → AddUpBy key rows }
 {}

@@ -63,6 +63,6 @@ pub use merged::Merged;
 pub use names::Names;
 pub use numbered::{CallSum, CallsByPlace, CellSum, CellsByPlace, NumberedCalls, NumberedCells};
 pub use places::{Call, CellPlace, Place};
-pub use rows::{CallEdge, Cell, FileTotals, StackCount};
+pub use rows::{ArcRow, CellRow, FileTotals, StackRow};
 pub use sum_rows::SumRows;
 pub use walks::{CallWalk, CellWalk, GivesNames, StackWalk, Walk};

@@ -9,7 +9,7 @@ ghost use Rattle.cost_rows.specs.Slots.{sums_in, LeadTo};
 ghost use Rattle.cost_rows.specs.Sums.{Spot};
 
 use crate::keys::{Key, LentPart, Part};
-use crate::rows::Cell;
+use crate::rows::CellRow;
 use crate::slots::Slots;
 use crate::sum_rows::SumRows;
 use std::alloc::{AllocError, Global};
@@ -129,7 +129,7 @@ impl Merged {
 
     /// Adds a row's cost to the sum of the part of its place that the key tells; a cost of 0 adds
     /// nothing. A refusal leaves the sums as they were.
-    pub fn add(&mut self, row: &Cell<&[u8]>) -> Result<(), AllocError>
+    pub fn add(&mut self, row: &CellRow<&[u8]>) -> Result<(), AllocError>
         requires small { total_of self.old.sums + row.now.cost < 2 ^ 112 }
         ensures ok { OnOk result (self.new ≡ with_row self.old (plain_cell row.now)) }
         ensures total { OnOk result (total_of self.new.sums ≡ total_of self.old.sums + row.now.cost) }

@@ -2,7 +2,7 @@
 
 use crate::call_sums::count_and_costs;
 use crate::places::{Call, CellPlace};
-use crate::rows::{CallEdge, Cell};
+use crate::rows::{ArcRow, CellRow};
 use crate::sum_map::SumIter;
 use std::marker::Model;
 
@@ -57,11 +57,11 @@ pub struct NumberedCalls<'a> {
 
 impl<'a> Model for NumberedCalls<'a> {
     ghost use Rattle.std.specs.Prelude.{ℕ, List};
-    ghost use Rattle.cost_rows.specs.declared.rows.CallEdge.{CallEdge};
+    ghost use Rattle.cost_rows.specs.declared.rows.ArcRow.{ArcRow};
     ghost use Rattle.cost_rows.specs.ByNumber.{numbered_calls};
     ghost use Rattle.cost_rows.specs.Calls.{calls_in};
 
-    ghost Value = { List (CallEdge ℕ (List ℕ)) };
+    ghost Value = { List (ArcRow ℕ (List ℕ)) };
 
     ghost view = { λ a. numbered_calls (calls_in a.rest) };
 }
@@ -70,16 +70,16 @@ impl<'a> Iterator for NumberedCalls<'a> {
     ghost use Rattle.std.specs.Iterator.{YieldsFirstBy, item_count};
     ghost use Rattle.cost_rows.specs.ByNumber.{plain_numbered};
 
-    type Item = CallEdge<u32, &'a [u128]>;
+    type Item = ArcRow<u32, &'a [u128]>;
 
     ghost next_gives = { YieldsFirstBy plain_numbered (λ s. s) };
 
     ghost remaining = { item_count (λ s. s) };
 
-    fn next(&mut self) -> Option<CallEdge<u32, &'a [u128]>> {
+    fn next(&mut self) -> Option<ArcRow<u32, &'a [u128]>> {
         let (call, sums) = self.rest.next()?;
         let (count, costs) = count_and_costs(sums);
-        Some(CallEdge {
+        Some(ArcRow {
             object: call.place.object,
             file: call.place.file,
             function: call.place.function,
@@ -143,10 +143,10 @@ pub struct NumberedCells<'a> {
 
 impl<'a> Model for NumberedCells<'a> {
     ghost use Rattle.std.specs.Prelude.{ℕ, List, ◌+◌, ◌<◌, ◌^◌, ◌++◌, length};
-    ghost use Rattle.cost_rows.specs.declared.rows.Cell.{Cell};
+    ghost use Rattle.cost_rows.specs.declared.rows.CellRow.{CellRow};
     ghost use Rattle.cost_rows.specs.ByNumber.{numbered_at, numbered_cells};
 
-    ghost Value = { List (Cell ℕ) };
+    ghost Value = { List (CellRow ℕ) };
 
     ghost view = { λ a. numbered_at a.place a.event a.costs.now ++ numbered_cells a.rest };
 
@@ -156,13 +156,13 @@ impl<'a> Model for NumberedCells<'a> {
 impl<'a> Iterator for NumberedCells<'a> {
     ghost use Rattle.std.specs.Iterator.{YieldsFirst, item_count};
 
-    type Item = Cell<u32>;
+    type Item = CellRow<u32>;
 
     ghost next_gives = { YieldsFirst (λ s. s) };
 
     ghost remaining = { item_count (λ s. s) };
 
-    fn next(&mut self) -> Option<Cell<u32>> {
+    fn next(&mut self) -> Option<CellRow<u32>> {
         loop {
             match self.costs.split_first() {
                 Some((cost, more)) => {
@@ -171,7 +171,7 @@ impl<'a> Iterator for NumberedCells<'a> {
                     self.event += 1;
                     if *cost > 0 {
                         let place = self.place.place;
-                        return Some(Cell {
+                        return Some(CellRow {
                             object: place.object,
                             file: place.file,
                             function: place.function,

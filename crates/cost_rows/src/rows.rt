@@ -4,7 +4,7 @@ use cg_text::ListVec;
 
 /// The sum of an event's self costs at a place. Names are bytes, owned or borrowed.
 #[derive(Drop)]
-pub struct Cell<N> {
+pub struct CellRow<N> {
     pub object: N,
     pub file: N,
     pub function: N,
@@ -21,7 +21,7 @@ pub struct Cell<N> {
 /// The sums of the calls from a place to a function: how many there were, and what they cost. Names
 /// are bytes, owned or borrowed.
 #[derive(Drop)]
-pub struct CallEdge<N, C> {
+pub struct ArcRow<N, C> {
     pub object: N,
     pub file: N,
     pub function: N,
@@ -38,7 +38,7 @@ pub struct CallEdge<N, C> {
 
 /// How often a stack was seen: its frames, joined by `;` with the root first, as bytes.
 #[derive(Drop)]
-pub struct StackCount<N> {
+pub struct StackRow<N> {
     pub stack: N,
     /// The sum of its counts, below 2^127.
     pub count: u128,

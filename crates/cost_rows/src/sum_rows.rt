@@ -2,7 +2,7 @@
 ghost use Rattle.std.specs.Prelude.{◌≡◌, slice_index};
 
 use crate::keys::Part;
-use crate::rows::Cell;
+use crate::rows::CellRow;
 use std::collections::btree_map::Iter;
 use std::marker::Model;
 
@@ -27,9 +27,9 @@ impl<'a> Model for SumRows<'a> {
     ghost use Rattle.cost_rows.specs.Keys.{plain_sums};
     ghost use Rattle.cost_rows.specs.KeySums.{rows_of};
     ghost use Rattle.cost_rows.specs.Slots.{with_sums};
-    ghost use Rattle.cost_rows.specs.declared.rows.Cell.{Cell};
+    ghost use Rattle.cost_rows.specs.declared.rows.CellRow.{CellRow};
 
-    ghost Value = { List (Cell (List ℕ)) };
+    ghost Value = { List (CellRow (List ℕ)) };
 
     ghost view = { λ a. rows_of (with_sums a.sums.now (plain_sums a.entries)) };
 }
@@ -38,15 +38,15 @@ impl<'a> Iterator for SumRows<'a> {
     ghost use Rattle.std.specs.Iterator.{YieldsFirstBy, item_count};
     ghost use Rattle.cost_rows.specs.Plain.{plain_cell};
 
-    type Item = Cell<&'a [u8]>;
+    type Item = CellRow<&'a [u8]>;
 
     ghost next_gives = { YieldsFirstBy plain_cell (λ s. s) };
 
     ghost remaining = { item_count (λ s. s) };
 
-    fn next(&mut self) -> Option<Cell<&'a [u8]>> {
+    fn next(&mut self) -> Option<CellRow<&'a [u8]>> {
         let (part, slot) = self.entries.next()?;
-        Some(Cell {
+        Some(CellRow {
             object: part.object.as_slice(),
             file: part.file.as_slice(),
             function: part.function.as_slice(),

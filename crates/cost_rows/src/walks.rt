@@ -3,7 +3,7 @@ ghost use Rattle.std.specs.Prelude.{◌≡◌};
 
 use crate::names::Names;
 use crate::numbered::{NumberedCalls, NumberedCells};
-use crate::rows::{CallEdge, Cell, StackCount};
+use crate::rows::{ArcRow, CellRow, StackRow};
 use crate::sum_rows::sum_in;
 use std::collections::btree_map::Iter;
 use std::marker::Model;
@@ -59,21 +59,21 @@ impl<'a, W: GivesNames<'a> + Drop> Iterator for Walk<'a, W> {
 
 impl<'a> GivesNames<'a> for NumberedCalls<'a> {
     ghost use Rattle.std.specs.Prelude.{ℕ, List, map};
-    ghost use Rattle.cost_rows.specs.declared.rows.CallEdge as calls;
+    ghost use Rattle.cost_rows.specs.declared.rows.ArcRow as calls;
     ghost use Rattle.cost_rows.specs.Plain.{plain_call};
     ghost use Rattle.cost_rows.specs.Walks.{edge_named};
 
-    type Named = CallEdge<&'a [u8], &'a [u128]>;
+    type Named = ArcRow<&'a [u8], &'a [u128]>;
 
-    ghost Row = { calls.CallEdge (List ℕ) (List ℕ) };
+    ghost Row = { calls.ArcRow (List ℕ) (List ℕ) };
 
     ghost plain = { plain_call };
 
     ghost rows = { λ names rest. map (edge_named names) rest };
 
-    fn next_named(&mut self, names: &'a Names) -> Option<CallEdge<&'a [u8], &'a [u128]>> {
+    fn next_named(&mut self, names: &'a Names) -> Option<ArcRow<&'a [u8], &'a [u128]>> {
         let row = self.next()?;
-        Some(CallEdge {
+        Some(ArcRow {
             object: names.name_or_empty(row.object),
             file: names.name_or_empty(row.file),
             function: names.name_or_empty(row.function),
@@ -89,21 +89,21 @@ impl<'a> GivesNames<'a> for NumberedCalls<'a> {
 
 impl<'a> GivesNames<'a> for NumberedCells<'a> {
     ghost use Rattle.std.specs.Prelude.{ℕ, List, map};
-    ghost use Rattle.cost_rows.specs.declared.rows.Cell as cells;
+    ghost use Rattle.cost_rows.specs.declared.rows.CellRow as cells;
     ghost use Rattle.cost_rows.specs.Plain.{plain_cell};
     ghost use Rattle.cost_rows.specs.Walks.{cell_named};
 
-    type Named = Cell<&'a [u8]>;
+    type Named = CellRow<&'a [u8]>;
 
-    ghost Row = { cells.Cell (List ℕ) };
+    ghost Row = { cells.CellRow (List ℕ) };
 
     ghost plain = { plain_cell };
 
     ghost rows = { λ names rest. map (cell_named names) rest };
 
-    fn next_named(&mut self, names: &'a Names) -> Option<Cell<&'a [u8]>> {
+    fn next_named(&mut self, names: &'a Names) -> Option<CellRow<&'a [u8]>> {
         let row = self.next()?;
-        Some(Cell {
+        Some(CellRow {
             object: names.name_or_empty(row.object),
             file: names.name_or_empty(row.file),
             function: names.name_or_empty(row.function),
@@ -124,12 +124,12 @@ pub struct StackWalk<'a> {
 
 impl<'a> Model for StackWalk<'a> {
     ghost use Rattle.std.specs.Prelude.{ℕ, List};
-    ghost use Rattle.cost_rows.specs.declared.rows.StackCount.{StackCount};
+    ghost use Rattle.cost_rows.specs.declared.rows.StackRow.{StackRow};
     ghost use Rattle.cost_rows.specs.Slots.{with_sums};
     ghost use Rattle.cost_rows.specs.Stacks.{by_bytes};
     ghost use Rattle.cost_rows.specs.Walks.{counted_stacks};
 
-    ghost Value = { List (StackCount (List ℕ)) };
+    ghost Value = { List (StackRow (List ℕ)) };
 
     ghost view = { λ a. counted_stacks (with_sums a.counts.now (by_bytes a.rest)) };
 }
@@ -138,17 +138,17 @@ impl<'a> Iterator for StackWalk<'a> {
     ghost use Rattle.std.specs.Iterator.{YieldsFirstBy, item_count};
     ghost use Rattle.cost_rows.specs.Plain.{plain_stack};
 
-    type Item = StackCount<&'a [u8]>;
+    type Item = StackRow<&'a [u8]>;
 
     ghost next_gives = { YieldsFirstBy plain_stack (λ s. s) };
 
     ghost remaining = { item_count (λ s. s) };
 
-    fn next(&mut self) -> Option<StackCount<&'a [u8]>> {
+    fn next(&mut self) -> Option<StackRow<&'a [u8]>> {
         while let Some((stack, slot)) = self.rest.next() {
             let count = sum_in(self.counts, *slot);
             if count > 0 {
-                return Some(StackCount {
+                return Some(StackRow {
                     stack: stack.as_slice(),
                     count,
                 });

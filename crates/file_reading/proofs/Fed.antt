@@ -3,8 +3,8 @@ use Rattle.std.proofs.Common.{◌≡◌, ℕ, ◌+◌, List, ◌++◌, length, f
 use Rattle.std.proofs.lemmas.Grind.{fold-append}
 use Rattle.std.proofs.lemmas.List.{length-append}
 use Rattle.std.specs.declared.alloc.AllocError.{AllocError}
-use Rattle.cg_text.specs.declared.faults.ReadError.{ReadError}
-use Rattle.cg_text.specs.declared.faults.ReadError.TheVariants as ends
+use Rattle.cg_text.specs.declared.faults.ReadEnd.{ReadEnd}
+use Rattle.cg_text.specs.declared.faults.ReadEnd.TheVariants as ends
 use Rattle.cg_formulas.specs.declared.heads.FileHead.{FileHead}
 use Rattle.text_pieces.specs.Readers.{GoesOn, HandsAll, HandsPart}
 use Rattle.callgrind_reader.specs.Files as callgrind
@@ -53,13 +53,13 @@ module _ (r : Reader) (rows rows' : FileRows) (self : FileReader) (is : self ≡
   at_end : (bytes : List ℕ) (s : ReadsRecords r rows bytes) → HandsAll callgrind.records_of_file with_record bytes s.told (content_of rows) (content_of rows') → content_of rows' ≡ content_of_text bytes
   at_end bytes s on = folded_on with_record s.told on.0 (content_of rows) (content_of rows') s.rows_are on.2 ∙ ap (fold with_record empty) (sym on.1)
 
-  pub ended_records : (result : Result FileHead ReadError)
+  pub ended_records : (result : Result FileHead ReadEnd)
       → ((text : List ℕ) (told : List Record) → records.Reads r text told → records.Ended result text)
       → ((text : List ℕ) (told : List Record) → records.Reads r text told → records.MatchMemory result (HandsAll callgrind.records_of_file with_record text told (content_of rows) (content_of rows')) (HandsPart callgrind.records_of_file with_record text told (content_of rows) (content_of rows')))
       → (kind : Kind) (bytes : List ℕ) → Stands self rows kind bytes → HasEndedAs kind bytes result rows'
   ended_records result ended told kind bytes s = go result ended told kind (subst (λ f. Stands f rows kind bytes) is s)
     where
-      go : (result : Result FileHead ReadError)
+      go : (result : Result FileHead ReadEnd)
           → ((text : List ℕ) (told : List Record) → records.Reads r text told → records.Ended result text)
           → ((text : List ℕ) (told : List Record) → records.Reads r text told → records.MatchMemory result (HandsAll callgrind.records_of_file with_record text told (content_of rows) (content_of rows')) (HandsPart callgrind.records_of_file with_record text told (content_of rows) (content_of rows')))
           → (kind : Kind) → Stands (readers.Callgrind r) rows kind bytes → HasEndedAs kind bytes result rows'
@@ -89,13 +89,13 @@ module _ (r : FoldedReader) (rows rows' : FileRows) (self : FileReader) (is : se
   at_last : (bytes : List ℕ) (s : ReadsStacks r rows bytes) → HandsAll folded.stacks_of_file with_stack bytes s.told (content_of rows) (content_of rows') → content_of rows' ≡ content_of_folded bytes
   at_last bytes s on = folded_on with_stack s.told on.0 (content_of rows) (content_of rows') s.rows_are on.2 ∙ ap (fold with_stack empty) (sym on.1)
 
-  pub ended_stacks : (result : Result FileHead ReadError)
+  pub ended_stacks : (result : Result FileHead ReadEnd)
       → ((text : List ℕ) (told : List Seen) → stacks.Reads r text told → stacks.Ended result text)
       → ((text : List ℕ) (told : List Seen) → stacks.Reads r text told → stacks.MatchMemory result (HandsAll folded.stacks_of_file with_stack text told (content_of rows) (content_of rows')) (HandsPart folded.stacks_of_file with_stack text told (content_of rows) (content_of rows')))
       → (kind : Kind) (bytes : List ℕ) → Stands self rows kind bytes → HasEndedAs kind bytes result rows'
   ended_stacks result ended told kind bytes s = go result ended told kind (subst (λ f. Stands f rows kind bytes) is s)
     where
-      go : (result : Result FileHead ReadError)
+      go : (result : Result FileHead ReadEnd)
           → ((text : List ℕ) (told : List Seen) → stacks.Reads r text told → stacks.Ended result text)
           → ((text : List ℕ) (told : List Seen) → stacks.Reads r text told → stacks.MatchMemory result (HandsAll folded.stacks_of_file with_stack text told (content_of rows) (content_of rows')) (HandsPart folded.stacks_of_file with_stack text told (content_of rows) (content_of rows')))
           → (kind : Kind) → Stands (readers.Folded r) rows kind bytes → HasEndedAs kind bytes result rows'

@@ -2,7 +2,7 @@
 use Rattle.std.proofs.Common.{◌≡◌, ℕ, ◌+◌, List, [], ◌∷◌, ◌++◌, fold, slice_index, Some, None, sym, ◌∙◌, ap, refl, zero-add}
 use Rattle.cg_text.specs.Errors.{error_text}
 use Rattle.cg_text.specs.declared.faults.Fault as faults
-use Rattle.cg_text.specs.declared.faults.ReadError.TheVariants.{Fault}
+use Rattle.cg_text.specs.declared.faults.ReadEnd.TheVariants.{Fault}
 use Rattle.callgrind_reader.specs.Files.{records_of_file, fault_of_file, events_of_file}
 use Rattle.file_reading.specs.Sums.{self_sum, add_record}
 use Rattle.file_reading.specs.TotalLines.{total_line, total_lines, refused_line}

@@ -1,8 +1,8 @@
 -- When a file that is being read represents the bytes so far, and what it is read as.
 use Rattle.std.specs.Prelude.{◌≡◌, ℕ, ◌+◌, List, [], length, fold, Result, Ok, Err, None, Some}
 use Rattle.cg_text.specs.declared.faults.Fault as faults
-use Rattle.cg_text.specs.declared.faults.ReadError.{ReadError}
-use Rattle.cg_text.specs.declared.faults.ReadError.TheVariants as ends
+use Rattle.cg_text.specs.declared.faults.ReadEnd.{ReadEnd}
+use Rattle.cg_text.specs.declared.faults.ReadEnd.TheVariants as ends
 use Rattle.cg_formulas.specs.declared.heads.FileHead.{FileHead}
 use Rattle.callgrind_reader.specs.Reads as records
 use Rattle.profile_records.specs.Records.{Record}
@@ -63,7 +63,7 @@ IsFileOf kind bytes (Ok file) = (fault_of (today kind) bytes ≡ None) × IsHead
 IsFileOf kind bytes (Err fault) = fault_of (today kind) bytes ≡ Some fault
 
 -- what a reader and its rows come to
-abbrev pub HasEndedAs : Kind → List ℕ → Result FileHead ReadError → FileRows → Type 0
+abbrev pub HasEndedAs : Kind → List ℕ → Result FileHead ReadEnd → FileRows → Type 0
 HasEndedAs kind bytes (Ok head) rows = IsFileOf kind bytes (Ok (head, rows))
 HasEndedAs kind bytes (Err (ends.Fault fault line)) rows = fault_of (today kind) bytes ≡ Some (fault, line)
 HasEndedAs kind bytes (Err ends.Memory) rows = Unit {0}

@@ -2,7 +2,7 @@
 use Rattle.std.specs.Prelude.{ℕ, List, Option, Some, None}
 use Rattle.cg_text.specs.Errors.{error_text}
 use Rattle.cg_text.specs.declared.faults.Fault as faults
-use Rattle.cg_text.specs.declared.faults.ReadError.TheVariants.{Fault}
+use Rattle.cg_text.specs.declared.faults.ReadEnd.TheVariants.{Fault}
 use Rattle.profile_records.specs.Records.{Record}
 use Rattle.callgrind_reader.specs.Files.{records_of_file, fault_of_file, events_of_file}
 use Rattle.file_reading.specs.Sums.{self_sum}

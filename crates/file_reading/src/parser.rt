@@ -7,7 +7,7 @@ ghost use Rattle.file_reading.specs.FileParsers.{Stands, RepresentsAtFirst, HasT
 use byte_io::ByteSink;
 use callgrind_reader::Reader;
 use cg_formulas::FileHead;
-use cg_text::{Fault, ReadError};
+use cg_text::{Fault, ReadEnd};
 use cost_rows::FileRows;
 use folded_reader::FoldedReader;
 use profile_records::Kind;
@@ -60,7 +60,7 @@ impl FileReader {
     }
 
     /// Ends the file, and hands on what its last line says.
-    fn finish(self, rows: &mut FileRows) -> Result<FileHead, ReadError>
+    fn finish(self, rows: &mut FileRows) -> Result<FileHead, ReadEnd>
         requires { (kind : Kind) × (bytes : List ℕ) × Stands self rows.old kind bytes }
         ensures { (kind : Kind) (bytes : List ℕ) → Stands self rows.old kind bytes → HasEndedAs kind bytes result rows.new }
     {
@@ -99,11 +99,11 @@ impl FileParser {
                 digest,
                 file: Ok((head, rows)),
             }),
-            Err(ReadError::Fault(fault, line)) => Ok(ParsedFile {
+            Err(ReadEnd::Fault(fault, line)) => Ok(ParsedFile {
                 digest,
                 file: Err((fault, line)),
             }),
-            Err(ReadError::Memory) => Err(AllocError),
+            Err(ReadEnd::Memory) => Err(AllocError),
         }
     }
 }

@@ -1,14 +1,14 @@
 // The total of a file: the sums of its self costs, by event.
 ghost use Rattle.std.specs.Prelude.{◌≤◌, ℕ, IfOk, List, [], length};
 ghost use Rattle.cg_text.specs.Errors.{error_text};
-ghost use Rattle.cg_text.specs.declared.faults.ReadError.TheVariants as ends;
+ghost use Rattle.cg_text.specs.declared.faults.ReadEnd.TheVariants as ends;
 ghost use Rattle.file_reading.specs.Readers.{IsTotalOf, IsRefusal};
 
 use crate::lines::{refused_line, total_lines};
 use crate::sums::CostSums;
 use byte_io::ByteSink;
 use callgrind_reader::Reader;
-use cg_text::{Fault, ListVec, ReadError};
+use cg_text::{Fault, ListVec, ReadEnd};
 use std::alloc::{AllocError, Global};
 
 /// The total of a file as it is printed.
@@ -34,7 +34,7 @@ pub fn refused(alloc: Global, reason: &str) -> Result<TotalText, AllocError>
 fn refused_fault(alloc: Global, fault: Fault, line: u64) -> Result<TotalText, AllocError>
     ensures { IfOk result (IsRefusal (error_text (ends.Fault fault line))) }
 {
-    let reason = ReadError::Fault(fault, line).to_string(alloc)?;
+    let reason = ReadEnd::Fault(fault, line).to_string(alloc)?;
     refused(alloc, reason.as_str())
 }
 
@@ -67,8 +67,8 @@ impl Total {
         let Total { reader, mut sums } = self;
         let head = match reader.finish(&mut sums) {
             Ok(head) => head,
-            Err(ReadError::Memory) => return Err(AllocError),
-            Err(ReadError::Fault(fault, line)) => return refused_fault(alloc, fault, line),
+            Err(ReadEnd::Memory) => return Err(AllocError),
+            Err(ReadEnd::Fault(fault, line)) => return refused_fault(alloc, fault, line),
         };
         let text = total_lines(alloc, head.events.as_slice(), sums.as_slice())?;
         Ok(TotalText {

@@ -1,8 +1,8 @@
 -- When a reader represents a text, having handed out some stacks; and what a file is read as.
 use Rattle.std.specs.Prelude.{◌≡◌, ℕ, ◌+◌, ◌≤◌, List, Some, None, Result, Ok, Err}
 use Rattle.cg_formulas.specs.declared.heads.FileHead.{FileHead}
-use Rattle.cg_text.specs.declared.faults.ReadError.{ReadError}
-use Rattle.cg_text.specs.declared.faults.ReadError.TheVariants as ends
+use Rattle.cg_text.specs.declared.faults.ReadEnd.{ReadEnd}
+use Rattle.cg_text.specs.declared.faults.ReadEnd.TheVariants as ends
 use Rattle.text_pieces.specs.Backwards.{so_far}
 use Rattle.text_pieces.specs.Kept as pieces
 use Rattle.text_pieces.specs.Readers.{Represents}
@@ -40,13 +40,13 @@ pub record StaysOpen (old : FoldedReader) (count : ℕ) (new : FoldedReader) (la
   pub fresh : IsSpent new → ⊥
 
 -- a head exactly where the file is accepted, else its first fault
-abbrev pub Ended : Result FileHead ReadError → List ℕ → Type 0
+abbrev pub Ended : Result FileHead ReadEnd → List ℕ → Type 0
 Ended (Ok head) text = (fault_of_file text ≡ None) × HeadIs head
 Ended (Err (ends.Fault fault line)) text = fault_of_file text ≡ Some (fault, line)
 Ended (Err ends.Memory) text = Unit {0}
 
 -- one fact where memory did not run out, and another where it did
-abbrev pub MatchMemory : Result FileHead ReadError → Type 0 → Type 0 → Type 0
+abbrev pub MatchMemory : Result FileHead ReadEnd → Type 0 → Type 0 → Type 0
 MatchMemory (Ok head) P Q = P
 MatchMemory (Err (ends.Fault fault line)) P Q = P
 MatchMemory (Err ends.Memory) P Q = Q

@@ -1,6 +1,6 @@
 // Reads a file in pieces.
 ghost use Rattle.std.specs.Prelude.{◌≡◌, ℕ, ◌≤◌, OnOk, OnErr, IfOk, IsErr, Err, List, [], ◌++◌, length};
-ghost use Rattle.cg_text.specs.declared.faults.ReadError.TheVariants.{Memory};
+ghost use Rattle.cg_text.specs.declared.faults.ReadEnd.TheVariants.{Memory};
 ghost use Rattle.text_pieces.specs.Kept.{taken_of};
 ghost use Rattle.text_pieces.specs.Readers.{GoesOn, HandsAll, HandsPart};
 ghost use Rattle.profile_records.specs.Stacks.{Seen};
@@ -10,7 +10,7 @@ ghost use Rattle.folded_reader.specs.Heads.{HeadIs};
 use crate::heads::samples_head;
 use crate::state::State;
 use cg_formulas::FileHead;
-use cg_text::ReadError;
+use cg_text::ReadEnd;
 use profile_records::StackSink;
 use std::alloc::{AllocError, Global};
 use text_pieces::Pieces;
@@ -68,7 +68,7 @@ impl FoldedReader {
 
     /// Ends the file: hands on the stack of its last line, if that has no end, and answers the file's
     /// head or its first fault.
-    pub fn finish<S: StackSink>(self, sink: &mut S) -> Result<FileHead, ReadError>
+    pub fn finish<S: StackSink>(self, sink: &mut S) -> Result<FileHead, ReadEnd>
         requires { (IsSpent self → ⊥) → Takes self (S.last sink.old) }
         ensures ended { (text : List ℕ) (told : List Seen) → Reads self text told → Ended result text }
         ensures told { (text : List ℕ) (told : List Seen) → Reads self text told → MatchMemory result
@@ -85,7 +85,7 @@ impl FoldedReader {
         } = self;
         pieces.finish(&mut state, sink)?;
         match state.fault {
-            Some((fault, line)) => Err(ReadError::Fault(fault, line)),
+            Some((fault, line)) => Err(ReadEnd::Fault(fault, line)),
             None => Ok(head),
         }
     }

@@ -4,11 +4,11 @@ use Rattle.std.proofs.lemmas.Bool.Decides.{nat_tests}
 use Rattle.std.proofs.lemmas.Grind.{flat_map-append, fold-append}
 use Rattle.std.proofs.lemmas.List.{map-append}
 use Rattle.cost_rows.proofs.AboveLemmas.{map-above}
-use Rattle.cost_rows.specs.declared.rows.CallEdge.{CallEdge}
-use Rattle.plain_tables.specs.Tables.{CallRow as Call}
+use Rattle.cost_rows.specs.declared.rows.ArcRow.{ArcRow}
+use Rattle.plain_tables.specs.Tables.{StoredCall as Call}
 use Rattle.run_stores.specs.Walks.{CallsFoldTo, part_numbers, part_of, parts_of}
 use Rattle.held_lines.specs.HeldCalls.{HasTakenCalls, lines_from, part_line, row_of}
-use Rattle.store_schema.specs.declared.table_rows.CallRow.{CallRow}
+use Rattle.store_schema.specs.declared.table_rows.StoredCall.{StoredCall}
 use Rattle.store_schema.specs.Lines.{call_row}
 use Rattle.plain_tables.proofs.Lists.{all-append}
 
@@ -46,12 +46,12 @@ row_parts first costs zero = ap₂ (λ n l. part_of (row_of first costs) n first
 
 -- ---- lines that are taken
 
-module _ {M : Type 0} (events : ℕ) (step : M → CallEdge ℕ (List ℕ) → M) (start : M) where
+module _ {M : Type 0} (events : ℕ) (step : M → ArcRow ℕ (List ℕ) → M) (start : M) where
   pub no_line : HasTakenCalls events step start start None [] []
   no_line = record { handed = []; came_to = record { rows = []; parts_are = refl; long = tt; comes = refl }; waiting = []; are_waiting = (refl, refl); lines_are = refl }
 
   -- a part of the row that waits
-  pub part_taken : (came : M) (first line : CallRow) (costs more : List ℕ) (lines : List Call) → HasTakenCalls events step start came (Some first) costs lines → call_row line ≡ part_line (call_row first) line.part line.sum
+  pub part_taken : (came : M) (first line : StoredCall) (costs more : List ℕ) (lines : List Call) → HasTakenCalls events step start came (Some first) costs lines → call_row line ≡ part_line (call_row first) line.part line.sum
       → lines_from (call_row first) 1 more ≡ lines_from (call_row first) 1 costs ++ part_line (call_row first) line.part line.sum ∷ [] → length more ≤ events → HasTakenCalls events step start came (Some first) more (lines ++ call_row line ∷ [])
   part_taken came first line costs more lines was same grown within = record {
     handed = was.handed;
@@ -66,7 +66,7 @@ module _ {M : Type 0} (events : ℕ) (step : M → CallEdge ℕ (List ℕ) → M
   }
 
   -- the count of the next row, where none waits
-  pub row_begun : (came : M) (first : CallRow) (costs : List ℕ) (lines : List Call) → HasTakenCalls events step start came None costs lines → first.part ≡ 0 → HasTakenCalls events step start came (Some first) costs (lines ++ call_row first ∷ [])
+  pub row_begun : (came : M) (first : StoredCall) (costs : List ℕ) (lines : List Call) → HasTakenCalls events step start came None costs lines → first.part ≡ 0 → HasTakenCalls events step start came (Some first) costs (lines ++ call_row first ∷ [])
   row_begun came first costs lines was counts =
       let none : length costs ≤ events = subst (λ (l : List ℕ). length l ≤ events) (sym was.are_waiting.0) (omega arith) in
       record {
@@ -78,7 +78,7 @@ module _ {M : Type 0} (events : ℕ) (step : M → CallEdge ℕ (List ℕ) → M
       }
 
   -- the row that waits is handed on
-  pub row_handed : (came new : M) (first : CallRow) (costs full : List ℕ) (row : CallEdge ℕ (List ℕ)) (lines : List Call) → HasTakenCalls events step start came (Some first) costs lines
+  pub row_handed : (came new : M) (first : StoredCall) (costs full : List ℕ) (row : ArcRow ℕ (List ℕ)) (lines : List Call) → HasTakenCalls events step start came (Some first) costs lines
       → ((part : ℕ) → lines_from (call_row first) part full ≡ lines_from (call_row first) part costs) → (length costs ≤ events → length full ≡ events) → row ≡ row_of (call_row first) full → new ≡ step came row
       → HasTakenCalls events step start new None [] lines
   row_handed came new first costs full row lines was same long says steps =
@@ -90,7 +90,7 @@ module _ {M : Type 0} (events : ℕ) (step : M → CallEdge ℕ (List ℕ) → M
           rows = was.came_to.rows ++ row ∷ [];
           parts_are = map-append part_numbers was.handed more ∙ ap₂ ◌++◌ was.came_to.parts_are (row_parts (call_row first) full was.are_waiting.0 ∙ ap parts_of (sym says) ∙ sym (append-nil (parts_of row)))
               ∙ sym (flat_map-append parts_of was.came_to.rows (row ∷ []));
-          long = all-append _ was.came_to.rows (row ∷ []) was.came_to.long (ap (λ (x : CallEdge ℕ (List ℕ)). length x.costs) says ∙ long was.are_waiting.1, tt);
+          long = all-append _ was.came_to.rows (row ∷ []) was.came_to.long (ap (λ (x : ArcRow ℕ (List ℕ)). length x.costs) says ∙ long was.are_waiting.1, tt);
           comes = steps ∙ ap (λ m. step m row) was.came_to.comes ∙ sym (fold-append step start was.came_to.rows (row ∷ []));
         };
         waiting = [];

@@ -2,8 +2,8 @@
 use Rattle.std.proofs.Common.{◌≡◌, ◌<◌, ℕ, List, [], ◌∷◌, ◌++◌, map, fold, refl, sym, ap, ap₂, subst, ◌∙◌}
 use Rattle.std.proofs.lemmas.Grind.{fold-append}
 use Rattle.std.proofs.lemmas.List.{map-append}
-use Rattle.cost_rows.specs.declared.rows.Cell.{Cell}
-use Rattle.plain_tables.specs.Tables.{CellRow}
+use Rattle.cost_rows.specs.declared.rows.CellRow.{CellRow}
+use Rattle.plain_tables.specs.Tables.{StoredCell}
 use Rattle.run_stores.specs.Walks.{CellsFoldTo, cell_numbers}
 use Rattle.plain_tables.proofs.Lists.{all-append}
 
@@ -12,13 +12,13 @@ pub comes_more : {L R M : Type 0} (row : L → R) (step : M → R → M) (start 
 comes_more row step start came new lines line made was is steps =
     steps ∙ ap₂ step was is ∙ sym (fold-append step start (map row lines) (row line ∷ [])) ∙ ap (fold step start) (sym (map-append row lines (line ∷ [])))
 
-module _ {M : Type 0} (events : ℕ) (step : M → Cell ℕ → M) (start : M) where
+module _ {M : Type 0} (events : ℕ) (step : M → CellRow ℕ → M) (start : M) where
   pub no_cell : CellsFoldTo events step start start []
   no_cell = record { of_events = tt; comes = refl }
 
-  pub one_cell : (came new : M) (lines : List CellRow) (line : CellRow) (row : Cell ℕ) → CellsFoldTo events step start came lines → row ≡ cell_numbers line → row.event < events → new ≡ step came row
+  pub one_cell : (came new : M) (lines : List StoredCell) (line : StoredCell) (row : CellRow ℕ) → CellsFoldTo events step start came lines → row ≡ cell_numbers line → row.event < events → new ≡ step came row
       → CellsFoldTo events step start new (lines ++ line ∷ [])
   one_cell came new lines line row was says counted steps = record {
-    of_events = all-append _ lines (line ∷ []) was.of_events (subst (λ (r : Cell ℕ). r.event < events) says counted, tt);
+    of_events = all-append _ lines (line ∷ []) was.of_events (subst (λ (r : CellRow ℕ). r.event < events) says counted, tt);
     comes = comes_more cell_numbers step start came new lines line row was.comes says steps;
   }

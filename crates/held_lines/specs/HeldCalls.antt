@@ -1,15 +1,15 @@
 -- The calls of a run, handed on row by row with the numbers of their names.
 use Rattle.std.specs.Prelude.{◌≡◌, ◌≤◌, ℕ, List, [], ◌∷◌, ◌++◌, length, Option, Some, None}
 use Rattle.cost_rows.specs.Above.{rows_above}
-use Rattle.cost_rows.specs.declared.rows.CallEdge.{CallEdge}
-use Rattle.plain_tables.specs.Tables.{CallRow as Call}
+use Rattle.cost_rows.specs.declared.rows.ArcRow.{ArcRow}
+use Rattle.plain_tables.specs.Tables.{StoredCall as Call}
 use Rattle.run_stores.specs.Walks.{CallsFoldTo}
 use Rattle.store_schema.specs.Lines.{call_row}
-use Rattle.store_schema.specs.declared.table_rows.CallRow.{CallRow}
+use Rattle.store_schema.specs.declared.table_rows.StoredCall.{StoredCall}
 use Rattle.held_lines.specs.declared.handed_calls.CallLines.{CallLines}
 
 -- the row of the calls whose count this line has
-abbrev pub row_of : Call → List ℕ → CallEdge ℕ (List ℕ)
+abbrev pub row_of : Call → List ℕ → ArcRow ℕ (List ℕ)
 row_of first costs = record {
   object = first.object;
   file = first.file;
@@ -31,12 +31,12 @@ abbrev pub lines_from : Call → ℕ → List ℕ → List Call
 lines_from first part costs = rows_above (part_line first) part costs
 
 -- the lines of the row that is not handed on yet: its count, and the costs so far
-abbrev pub AreWaiting : ℕ → Option CallRow → List ℕ → List Call → Type 0
+abbrev pub AreWaiting : ℕ → Option StoredCall → List ℕ → List Call → Type 0
 AreWaiting events None costs lines = (costs ≡ []) × (lines ≡ [])
 AreWaiting events (Some first) costs lines = (first.part ≡ 0) × (length costs ≤ events) × (lines ≡ call_row first ∷ lines_from (call_row first) 1 costs)
 
 -- lines were taken: those of rows that were handed on, and behind them those of the row that waits
-pub record HasTakenCalls {M : Type 0} (events : ℕ) (step : M → CallEdge ℕ (List ℕ) → M) (start came : M) (first : Option CallRow) (costs : List ℕ) (lines : List Call) : Type 0 where
+pub record HasTakenCalls {M : Type 0} (events : ℕ) (step : M → ArcRow ℕ (List ℕ) → M) (start came : M) (first : Option StoredCall) (costs : List ℕ) (lines : List Call) : Type 0 where
   pub handed : List Call
   pub came_to : CallsFoldTo events step start came handed
   pub waiting : List Call
@@ -44,6 +44,6 @@ pub record HasTakenCalls {M : Type 0} (events : ℕ) (step : M → CallEdge ℕ 
   pub lines_are : lines ≡ handed ++ waiting
 
 -- the same of what takes them, of so many events
-pub record HasTakenCallLines {T M : Type 0} (events : ℕ) (meaning : T → M) (step : M → CallEdge ℕ (List ℕ) → M) (start : M) (lines : List Call) (taker : CallLines T) : Type 0 where
+pub record HasTakenCallLines {T M : Type 0} (events : ℕ) (meaning : T → M) (step : M → ArcRow ℕ (List ℕ) → M) (start : M) (lines : List Call) (taker : CallLines T) : Type 0 where
   pub events_same : taker.events ≡ events
   pub taken : HasTakenCalls events step start (meaning taker.sink) taker.first taker.costs lines

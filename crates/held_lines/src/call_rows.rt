@@ -4,8 +4,8 @@ ghost use Rattle.held_lines.specs.HeldCalls.{lines_from, part_line, row_of};
 ghost use Rattle.store_schema.specs.Lines.{call_row};
 
 use cg_text::ListVec;
-use cost_rows::CallEdge;
-use store_schema::{CallRow, StoreError};
+use cost_rows::ArcRow;
+use store_schema::{StoreError, StoredCall};
 
 /// Adds zeros, up to a length.
 fn fill(costs: &mut ListVec<u128>, len: usize) -> Result<(), StoreError>
@@ -23,7 +23,7 @@ fn fill(costs: &mut ListVec<u128>, len: usize) -> Result<(), StoreError>
 /// Adds a part at its column, and a 0 for each column before it that has none.
 pub(crate) fn add_part(
     costs: &mut ListVec<u128>,
-    line: &CallRow,
+    line: &StoredCall,
     events: usize,
 ) -> Result<(), StoreError>
     ensures lines { OnOk result ((first : _) → lines_from first 1 costs.new ≡ lines_from first 1 costs.old ++ part_line first line.now.part line.now.sum ∷ []) }
@@ -51,7 +51,7 @@ pub(crate) fn filled(mut costs: ListVec<u128>, events: usize) -> Result<ListVec<
 }
 
 /// Whether a line has a part of the same calls.
-pub(crate) fn is_part_of(first: &CallRow, line: &CallRow) -> bool
+pub(crate) fn is_part_of(first: &StoredCall, line: &StoredCall) -> bool
     ensures { IsTrue result → call_row line.now ≡ part_line (call_row first.now) line.now.part line.now.sum }
 {
     first.run == line.run
@@ -65,10 +65,10 @@ pub(crate) fn is_part_of(first: &CallRow, line: &CallRow) -> bool
 }
 
 /// The row of the calls whose count this line has.
-pub(crate) fn call_edge(first: &CallRow, costs: ListVec<u128>) -> CallEdge<u32, ListVec<u128>>
+pub(crate) fn call_edge(first: &StoredCall, costs: ListVec<u128>) -> ArcRow<u32, ListVec<u128>>
     ensures { result ≡ row_of (call_row first.now) costs }
 {
-    CallEdge {
+    ArcRow {
         object: first.object,
         file: first.file,
         function: first.function,

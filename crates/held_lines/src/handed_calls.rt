@@ -1,6 +1,6 @@
 // The calls of a run, handed on row by row, with the numbers of their names.
 ghost use Rattle.std.specs.Prelude.{◌≡◌, ◌≢◌, ◌++◌, ◌∷◌, [], ℕ, List, None, OnOk, IfOk, IfErr};
-ghost use Rattle.plain_tables.specs.Tables.{CallRow as Call};
+ghost use Rattle.plain_tables.specs.Tables.{StoredCall as Call};
 ghost use Rattle.store_schema.specs.Lines.{call_row};
 ghost use Rattle.run_stores.specs.Walks.{CallsFoldTo};
 ghost use Rattle.held_lines.specs.HeldCalls.{HasTakenCallLines, HasTakenCalls};
@@ -10,10 +10,10 @@ use cg_text::ListVec;
 use run_stores::CallSink;
 use std::alloc::Global;
 use std::mem;
-use store_schema::{CallRow, OutOfForm, StoreError};
+use store_schema::{OutOfForm, StoreError, StoredCall};
 
 /// Refuses a row of calls whose first line is not their count, part 0.
-fn check_first(line: &CallRow) -> Result<(), OutOfForm>
+fn check_first(line: &StoredCall) -> Result<(), OutOfForm>
     ensures first { OnOk result (line.now.part ≡ 0) }
     ensures refused { IfErr result (λ _. line.now.part ≢ 0) }
 {
@@ -30,7 +30,7 @@ pub struct CallLines<T> {
     alloc: Global,
     events: usize,
     /// The line with the count of the row that is not handed on yet.
-    first: Option<CallRow>,
+    first: Option<StoredCall>,
     /// Its costs.
     costs: ListVec<u128>,
     sink: T,
@@ -69,7 +69,7 @@ impl<T: CallSink> CallLines<T> {
     /// Takes a line: a part of the row that waits, or the count of the next. Errors: `Memory`; `Store` for a
     /// part without its count, parts that do not rise, and a cost of 0 or of none of the events; and those of
     /// the taker.
-    pub fn take_line(&mut self, line: CallRow) -> Result<(), StoreError>
+    pub fn take_line(&mut self, line: StoredCall) -> Result<(), StoreError>
         ensures { OnOk result ((events : ℕ) (start : T.Meaning) (lines : List Call)
             → HasTakenCallLines events T.meaning T.step start lines self.old
             → HasTakenCallLines events T.meaning T.step start (lines ++ call_row line ∷ []) self.new) }

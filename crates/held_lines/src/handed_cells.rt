@@ -1,16 +1,16 @@
 // The cells of a run, handed on one at a time, with the numbers of their names.
 ghost use Rattle.std.specs.Prelude.{◌≡◌, ◌<◌, ◌++◌, ◌∷◌, [], ℕ, List, IfOk, OnOk};
-ghost use Rattle.plain_tables.specs.Tables.{CellRow as TableCell};
+ghost use Rattle.plain_tables.specs.Tables.{StoredCell as TableCell};
 ghost use Rattle.store_schema.specs.Lines.{cell_row};
 ghost use Rattle.run_stores.specs.Walks.{CellsFoldTo, cell_numbers};
 ghost use Rattle.held_lines.specs.HeldCells.{HasTakenCellLines};
 
-use cost_rows::Cell;
+use cost_rows::CellRow;
 use run_stores::CellSink;
-use store_schema::{CellRow, OutOfForm, StoreError};
+use store_schema::{OutOfForm, StoreError, StoredCell};
 
 /// The cell of a line, of one of so many events.
-fn cell_row(line: &CellRow, events: usize) -> Result<Cell<u32>, OutOfForm>
+fn cell_row(line: &StoredCell, events: usize) -> Result<CellRow<u32>, OutOfForm>
     ensures row { IfOk result (λ row. row ≡ cell_numbers (cell_row line.now)) }
     ensures counted { IfOk result (λ row. row.event < events) }
 {
@@ -18,7 +18,7 @@ fn cell_row(line: &CellRow, events: usize) -> Result<Cell<u32>, OutOfForm>
     if event >= events {
         return Err(OutOfForm);
     }
-    Ok(Cell {
+    Ok(CellRow {
         object: line.object,
         file: line.file,
         function: line.function,
@@ -45,7 +45,7 @@ impl<T: CellSink> CellLines<T> {
     }
 
     /// Takes a line. Errors: `Store` for a cell of none of the events; and those of the taker.
-    pub fn take_line(&mut self, line: CellRow) -> Result<(), StoreError>
+    pub fn take_line(&mut self, line: StoredCell) -> Result<(), StoreError>
         ensures { OnOk result ((events : ℕ) (start : T.Meaning) (lines : List TableCell)
             → HasTakenCellLines events T.meaning T.step start lines self.old
             → HasTakenCellLines events T.meaning T.step start (lines ++ cell_row line ∷ []) self.new) }

@@ -2,19 +2,19 @@
 ghost use Rattle.std.specs.Prelude.{◌≡◌, ◌++◌, ◌∷◌, [], List, OnOk, fold, map};
 ghost use Rattle.cost_rows.specs.Plain.{plain_stack};
 ghost use Rattle.prof_books.specs.Book.{stack_held};
-ghost use Rattle.plain_tables.specs.Tables.{StackRow};
+ghost use Rattle.plain_tables.specs.Tables.{StoredStack};
 ghost use Rattle.store_schema.specs.Lines.{held_stack};
 ghost use Rattle.held_lines.specs.HeldStacks.{HasTakenStackLines};
 
-use cost_rows::StackCount;
+use cost_rows::StackRow;
 use run_stores::StackRowSink;
 use store_schema::{HeldStack, StoreError};
 
 /// A stack that is held, as it is lent.
-fn lent_stack(line: &HeldStack) -> StackCount<&[u8]>
+fn lent_stack(line: &HeldStack) -> StackRow<&[u8]>
     ensures { plain_stack result ≡ stack_held (held_stack line.now) }
 {
-    StackCount {
+    StackRow {
         stack: line.frames.as_slice(),
         count: u128::from(line.count.get()),
     }
@@ -36,7 +36,7 @@ impl<T: StackRowSink> StackLines<T> {
 
     /// Takes a line. Errors: those of the taker.
     pub fn take_line(&mut self, line: HeldStack) -> Result<(), StoreError>
-        ensures { OnOk result ((start : T.Meaning) (lines : List StackRow)
+        ensures { OnOk result ((start : T.Meaning) (lines : List StoredStack)
             → HasTakenStackLines T.meaning T.step start lines self.old
             → HasTakenStackLines T.meaning T.step start (lines ++ held_stack line ∷ []) self.new) }
     {
@@ -45,7 +45,7 @@ impl<T: StackRowSink> StackLines<T> {
 
     /// Gives back what took the stacks of all lines.
     pub fn finish(self) -> T
-        ensures { (start : T.Meaning) (lines : List StackRow) → HasTakenStackLines T.meaning T.step start lines self
+        ensures { (start : T.Meaning) (lines : List StoredStack) → HasTakenStackLines T.meaning T.step start lines self
             → T.meaning result ≡ fold T.step start (map stack_held lines) }
     {
         let StackLines { sink } = self;

@@ -6,10 +6,10 @@ ghost use Rattle.store_schema.specs.WalkTexts.{calls_of};
 ghost use Rattle.store_schema.specs.Lines.{call_row};
 
 use sqlite::Row;
-use store_schema::{CallRow, OutOfForm, number_at, whole_at};
+use store_schema::{OutOfForm, StoredCall, number_at, whole_at};
 
 /// Reads a row of a page, behind its rowid.
-pub(crate) fn read_call(run: u32, row: &Row) -> Result<CallRow, OutOfForm>
+pub(crate) fn read_call(run: u32, row: &Row) -> Result<StoredCall, OutOfForm>
     ensures { IfOk result (λ line. arc_columns (call_row line) ≡ read_from (calls_of run) row.now) }
 {
     let object = number_at(row, 1)?;
@@ -21,7 +21,7 @@ pub(crate) fn read_call(run: u32, row: &Row) -> Result<CallRow, OutOfForm>
     let called_function = number_at(row, 7)?;
     let part = number_at(row, 8)?;
     let sum = whole_at(row, 9)?;
-    Ok(CallRow {
+    Ok(StoredCall {
         run,
         object,
         file,

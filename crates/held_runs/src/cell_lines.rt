@@ -6,10 +6,10 @@ ghost use Rattle.store_schema.specs.WalkTexts.{cells_of};
 ghost use Rattle.store_schema.specs.Lines.{cell_row};
 
 use sqlite::Row;
-use store_schema::{CellRow, OutOfForm, number_at, whole_at};
+use store_schema::{OutOfForm, StoredCell, number_at, whole_at};
 
 /// Reads a row of a page, behind its rowid.
-pub(crate) fn read_cell(run: u32, row: &Row) -> Result<CellRow, OutOfForm>
+pub(crate) fn read_cell(run: u32, row: &Row) -> Result<StoredCell, OutOfForm>
     ensures { IfOk result (λ line. cell_columns (cell_row line) ≡ read_from (cells_of run) row.now) }
 {
     let thread = whole_at(row, 1)?;
@@ -19,7 +19,7 @@ pub(crate) fn read_cell(run: u32, row: &Row) -> Result<CellRow, OutOfForm>
     let line = whole_at(row, 5)?;
     let event = number_at(row, 6)?;
     let cost = whole_at(row, 7)?;
-    Ok(CellRow {
+    Ok(StoredCell {
         run,
         object,
         file,

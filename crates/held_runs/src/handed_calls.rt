@@ -21,7 +21,7 @@ use store_schema::StoreError;
 impl<T: CallSink> RowSink for CallLines<T> {
     ghost use Rattle.std.specs.Prelude.{ℕ};
     ghost use Rattle.plain_tables.specs.RunRows.{calls_in};
-    ghost use Rattle.plain_tables.specs.Tables.{CallRow as Call};
+    ghost use Rattle.plain_tables.specs.Tables.{StoredCall as Call};
     ghost use Rattle.store_schema.specs.Tables.{arc_columns};
     ghost use Rattle.prof_store.proofs.RunRows.{calls_all};
     ghost use Rattle.held_lines.specs.HeldCalls.{HasTakenCallLines};

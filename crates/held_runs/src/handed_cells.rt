@@ -20,7 +20,7 @@ use store_schema::StoreError;
 impl<T: CellSink> RowSink for CellLines<T> {
     ghost use Rattle.std.specs.Prelude.{ℕ};
     ghost use Rattle.plain_tables.specs.RunRows.{cells_in};
-    ghost use Rattle.plain_tables.specs.Tables.{CellRow};
+    ghost use Rattle.plain_tables.specs.Tables.{StoredCell};
     ghost use Rattle.store_schema.specs.Tables.{cell_columns};
     ghost use Rattle.prof_store.proofs.RunRows.{cells_all};
     ghost use Rattle.held_lines.specs.HeldCells.{HasTakenCellLines};
@@ -28,7 +28,7 @@ impl<T: CellSink> RowSink for CellLines<T> {
 
     ghost listed = { Cells };
 
-    ghost Line = { CellRow };
+    ghost Line = { StoredCell };
 
     ghost columns = { cell_columns };
 

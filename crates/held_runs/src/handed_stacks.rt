@@ -18,7 +18,7 @@ use store_schema::StoreError;
 
 impl<T: StackRowSink> RowSink for StackLines<T> {
     ghost use Rattle.plain_tables.specs.RunRows.{stacks_in};
-    ghost use Rattle.plain_tables.specs.Tables.{StackRow};
+    ghost use Rattle.plain_tables.specs.Tables.{StoredStack};
     ghost use Rattle.store_schema.specs.Tables.{stack_columns};
     ghost use Rattle.prof_store.proofs.RunRows.{stacks_all};
     ghost use Rattle.held_lines.specs.HeldStacks.{HasTakenStackLines};
@@ -26,7 +26,7 @@ impl<T: StackRowSink> RowSink for StackLines<T> {
 
     ghost listed = { Stacks };
 
-    ghost Line = { StackRow };
+    ghost Line = { StoredStack };
 
     ghost columns = { stack_columns };
 

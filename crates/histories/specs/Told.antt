@@ -11,7 +11,7 @@ use Rattle.cost_rows.specs.Sums.{Spot, self_sum, call_sum, count_sum, has_call}
 use Rattle.cost_rows.specs.Totals.{AreTotals}
 use Rattle.cost_rows.specs.WalkSums.{rows_cost, calls_cost, calls_count, has_calls, stacks_count}
 use Rattle.cost_rows.specs.Walks.{HaveCosts, HaveCounts}
-use Rattle.cost_rows.specs.declared.rows.CallEdge.{CallEdge}
+use Rattle.cost_rows.specs.declared.rows.ArcRow.{ArcRow}
 use Rattle.cost_rows.specs.declared.rows.FileTotals.{FileTotals}
 use Rattle.plain_tables.specs.Changes as changes
 use Rattle.plain_tables.specs.Tables.{Tables, RunRow, GroupRow, MemberRow}
@@ -70,7 +70,7 @@ pub record IsHeldAs (h : History) (t : Tables) (n : ℕ) : Type 0 where
   pub book : IsBookOf file (run_held t line)
 
 -- rows of calls that sum to call records, for every test of calls
-pub record CallsSum (rows : List (CallEdge (List ℕ) (List ℕ))) (records : List Record) : Type 0 where
+pub record CallsSum (rows : List (ArcRow (List ℕ) (List ℕ))) (records : List Record) : Type 0 where
   pub counts : (passes : Spot → Spot → Bool) → calls_count passes rows ≡ count_sum passes records
   pub costs : (passes : Spot → Spot → Bool) (k : ℕ) → calls_cost passes k rows ≡ call_sum passes k records
   pub called : (passes : Spot → Spot → Bool) → has_calls passes rows ≡ has_call passes records
@@ -78,7 +78,7 @@ pub record CallsSum (rows : List (CallEdge (List ℕ) (List ℕ))) (records : Li
 -- the rows of the file's number sum to what the file says: cells and stacks as they stand, and calls row by row of which the parts are those
 pub record RowsAgree (f : File) (t : Tables) : Type 0 where
   pub cells : (passes : Spot → Bool) (k : ℕ) → rows_cost passes k (cells_held f.number t) ≡ self_sum passes k (records_of f.format f.bytes)
-  pub calls : (rows : List (CallEdge (List ℕ) (List ℕ))) → parts_held f.number t ≡ flat_map parts_of rows → CallsSum rows (records_of f.format f.bytes)
+  pub calls : (rows : List (ArcRow (List ℕ) (List ℕ))) → parts_held f.number t ≡ flat_map parts_of rows → CallsSum rows (records_of f.format f.bytes)
   pub stacks : (passes : List ℕ → Bool) → stacks_count passes (stacks_held f.number t) ≡ frames_sum passes (stacks_of f.format f.bytes)
   pub whole : AreOfRows (parts_held f.number t)
   pub cells_above : HaveCosts (cells_held f.number t)

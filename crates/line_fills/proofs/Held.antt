@@ -2,7 +2,7 @@
 use Rattle.std.proofs.Common.{◌≡◌, ℕ, List, map, true}
 use Rattle.sqlite_trees.specs.Tree.{Trees}
 use Rattle.plain_tables.specs.Changes.{has_run, with_calls, with_cells, with_coefs, with_derived, with_events, with_stacks}
-use Rattle.plain_tables.specs.Tables.{Tables, EventRow, DerivedRow, CoefRow, CellRow, CallRow, StackRow}
+use Rattle.plain_tables.specs.Tables.{Tables, EventRow, DerivedRow, CoefRow, StoredCell, StoredCall, StoredStack}
 use Rattle.store_schema.specs.Schema.{schema_two, run_event_at, derived_at, coef_at, thread_cell_at, arc_at, stack_at}
 use Rattle.store_schema.specs.Tables.{Holds, event_columns, derived_columns, coef_columns, cell_columns, arc_columns, stack_columns}
 use Rattle.table_changes.specs.Keys.{AreOfNewRun}
@@ -27,17 +27,17 @@ module _ (t : Tables) (now next : Trees) (was : Holds t now) (n : ℕ) (held : h
   coefs_filled xs new_run f =
       fills.coefs_filled t now next was n held (rows_behind (now coef_at.tree) (map coef_columns xs)) xs f.spared f.shaped f.behind (columns_behind (now coef_at.tree) (map coef_columns xs)) new_run f.filled.0
 
-  pub cells_filled : (xs : List CellRow) → AreOfNewRun (λ (x : CellRow). x.run) n t.cells xs
+  pub cells_filled : (xs : List StoredCell) → AreOfNewRun (λ (x : StoredCell). x.run) n t.cells xs
       → IsTableFilled schema_two now next thread_cell_at (map cell_columns xs) → Holds (with_cells xs t) next
   cells_filled xs new_run f =
       fills.cells_filled t now next was n held (rows_behind (now thread_cell_at.tree) (map cell_columns xs)) xs f.spared f.shaped f.behind (columns_behind (now thread_cell_at.tree) (map cell_columns xs)) new_run f.filled.0
 
-  pub calls_filled : (xs : List CallRow) → AreOfNewRun (λ (x : CallRow). x.run) n t.calls xs
+  pub calls_filled : (xs : List StoredCall) → AreOfNewRun (λ (x : StoredCall). x.run) n t.calls xs
       → IsTableFilled schema_two now next arc_at (map arc_columns xs) → Holds (with_calls xs t) next
   calls_filled xs new_run f =
       fills.calls_filled t now next was n held (rows_behind (now arc_at.tree) (map arc_columns xs)) xs f.spared f.shaped f.behind (columns_behind (now arc_at.tree) (map arc_columns xs)) new_run f.filled.0
 
-  pub stacks_filled : (xs : List StackRow) → AreOfNewRun (λ (x : StackRow). x.run) n t.stacks xs
+  pub stacks_filled : (xs : List StoredStack) → AreOfNewRun (λ (x : StoredStack). x.run) n t.stacks xs
       → IsTableFilled schema_two now next stack_at (map stack_columns xs) → Holds (with_stacks xs t) next
   stacks_filled xs new_run f =
       fills.stacks_filled t now next was n held (rows_behind (now stack_at.tree) (map stack_columns xs)) xs f.spared f.shaped f.behind (columns_behind (now stack_at.tree) (map stack_columns xs)) new_run f.filled.0

@@ -6,7 +6,7 @@ ghost use Rattle.sqlite_value.specs.Value.{owned};
 use crate::lines::PageLine;
 use sqlite_value::value::ValueRef;
 use std::cmp::Ordering;
-use store_schema::{CoefRow, ColumnInt, DerivedRow, EventRow, StackRow};
+use store_schema::{CoefRow, ColumnInt, DerivedRow, EventRow, StoredStack};
 
 /// A number of 32 bits as a value.
 #[inline(always)]
@@ -24,7 +24,7 @@ fn whole(number: &ColumnInt) -> ValueRef<'static>
     ValueRef::Int(number.as_i64())
 }
 
-impl PageLine for StackRow<'_> {
+impl PageLine for StoredStack<'_> {
     ghost use Rattle.store_schema.specs.Lines.{stack_row};
     ghost use Rattle.store_schema.specs.Tables.{stack_columns};
 

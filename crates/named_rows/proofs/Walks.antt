@@ -1,11 +1,11 @@
 -- Rows that were handed on, in the words of the book.
 use Rattle.std.proofs.Common.{◌≡◌, ℕ, List, map, fold, ap, ◌∙◌}
-use Rattle.cost_rows.specs.declared.rows.Cell.{Cell}
+use Rattle.cost_rows.specs.declared.rows.CellRow.{CellRow}
 use Rattle.plain_tables.specs.RunRows.{cells_in}
 use Rattle.plain_tables.specs.Tables.{Tables, NameRow}
 use Rattle.prof_books.specs.Book.{cell_held, cells_held}
 use Rattle.named_rows.specs.Named.{NamedCellsFoldTo}
 
 module _ {M : Type 0} (names : List NameRow) (events : ℕ) where
-  pub cells_come : (step : M → Cell (List ℕ) → M) (start : M) (run : ℕ) (t : Tables) (came : M) → NamedCellsFoldTo names events step start came (cells_in run t) → names ≡ t.names → came ≡ fold step start (cells_held run t)
+  pub cells_come : (step : M → CellRow (List ℕ) → M) (start : M) (run : ℕ) (t : Tables) (came : M) → NamedCellsFoldTo names events step start came (cells_in run t) → names ≡ t.names → came ≡ fold step start (cells_held run t)
   cells_come step start run t came was same = was.comes ∙ ap (λ (n : List NameRow). fold step start (map (cell_held n) (cells_in run t))) same

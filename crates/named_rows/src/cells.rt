@@ -6,7 +6,7 @@ ghost use Rattle.named_rows.specs.Named.{NamedCellsFoldTo};
 
 use crate::held::held_name;
 use crate::sinks::NamedCellSink;
-use cost_rows::Cell;
+use cost_rows::CellRow;
 use run_stores::{CellSink, NameTable, RunStore, StoreError};
 
 /// Looks up the names of cells, and hands these on.
@@ -26,11 +26,11 @@ impl<N: NameTable, T: NamedCellSink> CellSink for NamedCells<'_, N, T> {
 
     ghost step = { with_cell T.step };
 
-    fn take(&mut self, row: &Cell<u32>) -> Result<(), StoreError> {
+    fn take(&mut self, row: &CellRow<u32>) -> Result<(), StoreError> {
         let object = held_name(self.names, row.object)?;
         let file = held_name(self.names, row.file)?;
         let function = held_name(self.names, row.function)?;
-        self.sink.take(&Cell {
+        self.sink.take(&CellRow {
             object,
             file,
             function,

@@ -8,7 +8,7 @@ use Rattle.cost_reports.specs.Enough.{AreAbove, AreEnough}
 use Rattle.cost_rows.specs.KeySums.{sums_by}
 use Rattle.cost_rows.specs.Sums.{Spot}
 use Rattle.cost_rows.specs.declared.keys.Key.{Key}
-use Rattle.cost_rows.specs.declared.rows.Cell.{Cell}
+use Rattle.cost_rows.specs.declared.rows.CellRow.{CellRow}
 use Rattle.plain_tables.specs.Tables.{NameRow}
 use Rattle.prof_books.specs.Book.{IsHeld}
 use Rattle.report_texts.specs.declared.cuts.Cut.{Cut}
@@ -61,7 +61,7 @@ module _ {X Y : Type 0} (see : X → Y) (cost : X → ℕ) (seen_cost : Y → �
 -- ---- sums by name
 
 -- what is enough of the sums by number, in any order, is enough of the sums by name
-pub enough_named : (names : List NameRow) (key : Key) (cut : Cut) (rows : List (Cell ℕ)) (ranked kept : List (NumberPart × ℕ)) → AreApart names
+pub enough_named : (names : List NameRow) (key : Key) (cut : Cut) (rows : List (CellRow ℕ)) (ranked kept : List (NumberPart × ℕ)) → AreApart names
     → AllByRecursion (IsHeld names) (numbers_told key (fold with_number (record { key = key; sums = [] }) rows).sums)
     → IsPermutation ranked (fold with_number (record { key = key; sums = [] }) rows).sums
     → AreEnough (λ (e : NumberPart × ℕ). e.1) cut ranked kept

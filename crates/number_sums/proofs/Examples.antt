@@ -4,7 +4,7 @@ use Rattle.std.proofs.lemmas.List.Sorted.{IsPermutation-refl}
 use Rattle.cost_reports.specs.Enough.{AreEnough}
 use Rattle.cost_rows.specs.KeySums.{sums_by}
 use Rattle.cost_rows.specs.declared.keys.Key.TheVariants.{Object, File, Function, Line, Thread}
-use Rattle.cost_rows.specs.declared.rows.Cell.{Cell}
+use Rattle.cost_rows.specs.declared.rows.CellRow.{CellRow}
 use Rattle.plain_tables.specs.Tables.{NameRow}
 use Rattle.run_stores.specs.Names.{named_cell}
 use Rattle.number_sums.specs.Named.{named_sum}
@@ -12,7 +12,7 @@ use Rattle.number_sums.specs.Ranked.{sums_of, IsApart, Reached}
 use Rattle.number_sums.specs.Sums.{number_rows, numbers_part, numbers_told, numbers_total, told, with_number}
 use Rattle.number_sums.specs.declared.parts.NumberPart.{NumberPart}
 
-abbrev row : ℕ → ℕ → ℕ → Cell ℕ
+abbrev row : ℕ → ℕ → ℕ → CellRow ℕ
 row function line cost = record { object = 9; file = 4; function = function; line = line; thread = 1; event = 2; cost = cost }
 
 part_of_a_function : numbers_part Function (row 7 30 5) ≡ record { object = 9; file = 0; function = 7; line = 0; thread = 0 }
@@ -22,7 +22,7 @@ part_of_a_line : numbers_part Line (row 7 30 5) ≡ record { object = 0; file = 
 part_of_a_line = refl
 
 -- two rows of a function, one of another before it in the order, and one that costs nothing
-abbrev rows : List (Cell ℕ)
+abbrev rows : List (CellRow ℕ)
 rows = row 7 30 5 ∷ row 7 31 6 ∷ row 3 30 2 ∷ row 8 30 0 ∷ row 7 30 1 ∷ []
 
 abbrev function : ℕ → NumberPart

@@ -8,7 +8,7 @@ use Rattle.cost_rows.specs.Stacks.{counts_added}
 use Rattle.cost_rows.specs.Sums.{Spot}
 use Rattle.cost_rows.specs.declared.keys.Key.{Key}
 use Rattle.cost_rows.specs.declared.keys.Key.TheVariants.{Object, File, Function, Line, Thread}
-use Rattle.cost_rows.specs.declared.rows.Cell.{Cell}
+use Rattle.cost_rows.specs.declared.rows.CellRow.{CellRow}
 use Rattle.cost_rows.proofs.MergeLemmas.{sum-merge}
 use Rattle.plain_tables.specs.Tables.{NameRow}
 use Rattle.run_stores.specs.Names.{named_cell}
@@ -22,7 +22,7 @@ abbrev named_part : List NameRow → Key → NumberPart → Spot
 named_part names key part = part_of key (place_of_row (named_cell names (number_row part 0)))
 
 -- is that of the row
-part_named : (names : List NameRow) (key : Key) (row : Cell ℕ) → named_part names key (numbers_part key row) ≡ part_of key (place_of_row (named_cell names row))
+part_named : (names : List NameRow) (key : Key) (row : CellRow ℕ) → named_part names key (numbers_part key row) ≡ part_of key (place_of_row (named_cell names row))
 part_named names Object row = refl
 part_named names File row = refl
 part_named names Function row = refl
@@ -37,13 +37,13 @@ rows_cost names key passes (e ∷ sums) = ap (λ n. (if passes (named_part names
 -- ---- row by row
 
 -- adding rows leaves the key
-pub row_keeps_key : (s : SumsByNumber) (row : Cell ℕ) → (with_number s row).key ≡ s.key
+pub row_keeps_key : (s : SumsByNumber) (row : CellRow ℕ) → (with_number s row).key ≡ s.key
 row_keeps_key s row = elim (cases_Bool (nat_eq row.cost 0)) [
   | inl none ↦ rw none refl
   | inr some ↦ rw some refl
 ]
 
-pub rows_keep_key : (rows : List (Cell ℕ)) (s : SumsByNumber) → (fold with_number s rows).key ≡ s.key
+pub rows_keep_key : (rows : List (CellRow ℕ)) (s : SumsByNumber) → (fold with_number s rows).key ≡ s.key
 rows_keep_key [] s = refl
 rows_keep_key (row ∷ rows) s = rows_keep_key rows (with_number s row) ∙ row_keeps_key s row
 
@@ -51,7 +51,7 @@ nothing : (b : Bool) (cost : ℕ) → nat_eq cost 0 ≡ true → (if b then cost
 nothing true cost h = eqb-true cost 0 h
 nothing false cost h = refl
 
-sum_row : (test : NumberPart → Bool) (s : SumsByNumber) (row : Cell ℕ)
+sum_row : (test : NumberPart → Bool) (s : SumsByNumber) (row : CellRow ℕ)
     → sum_where test (λ n. n) (with_number s row).sums ≡ sum_where test (λ n. n) s.sums + (if test (numbers_part s.key row) then row.cost else 0)
 sum_row test s row = elim (cases_Bool (nat_eq row.cost 0)) [
   | inl none ↦ rw none (let e = nothing (test (numbers_part s.key row)) row.cost none in omega (arith, e))
@@ -59,7 +59,7 @@ sum_row test s row = elim (cases_Bool (nat_eq row.cost 0)) [
 ]
 
 -- named at the end, sums with a row more cost what it costs more, where its part passes
-pub row_more : (names : List NameRow) (passes : Spot → Bool) (s : SumsByNumber) (row : Cell ℕ)
+pub row_more : (names : List NameRow) (passes : Spot → Bool) (s : SumsByNumber) (row : CellRow ℕ)
     → cost_where s.key passes (map (named_cell names) (number_rows (with_number s row).sums))
     ≡ cost_where s.key passes (map (named_cell names) (number_rows s.sums)) + (if passes (part_of s.key (place_of_row (named_cell names row))) then row.cost else 0)
 row_more names passes s row =
@@ -67,7 +67,7 @@ row_more names passes s row =
     ∙ sum_row (λ part. passes (named_part names s.key part)) s row
     ∙ ap₂ (λ n p. n + (if passes p then row.cost else 0)) (sym (rows_cost names s.key passes s.sums)) (part_named names s.key row)
 
-sum_rows : (names : List NameRow) (key : Key) (passes : Spot → Bool) (rows : List (Cell ℕ)) (s : SumsByNumber) → s.key ≡ key
+sum_rows : (names : List NameRow) (key : Key) (passes : Spot → Bool) (rows : List (CellRow ℕ)) (s : SumsByNumber) → s.key ≡ key
     → sum_where (λ part. passes (named_part names key part)) (λ n. n) (fold with_number s rows).sums
     ≡ sum_where (λ part. passes (named_part names key part)) (λ n. n) s.sums + cost_where key passes (map (named_cell names) rows)
 sum_rows names key passes [] s is = let n : ℕ = sum_where (λ part. passes (named_part names key part)) (λ n. n) s.sums in let k : n ≡ n + 0 = omega arith in k
@@ -84,7 +84,7 @@ none_before : (n : ℕ) → 0 + n ≡ n
 none_before n = omega arith
 
 -- the sums of rows, named at the end
-pub named_at_the_end : (names : List NameRow) (key : Key) (rows : List (Cell ℕ))
+pub named_at_the_end : (names : List NameRow) (key : Key) (rows : List (CellRow ℕ))
     → sums_by key (map (named_cell names) (number_rows (fold with_number (record { key = key; sums = [] }) rows).sums)) ≡ sums_by key (map (named_cell names) rows)
 named_at_the_end names key rows =
     let sums = (fold with_number (record { key = key; sums = [] }) rows).sums in

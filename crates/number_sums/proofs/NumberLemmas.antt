@@ -7,7 +7,7 @@ use Rattle.std.proofs.lemmas.Cmp.{then_total, on_total}
 use Rattle.std.proofs.lemmas.Map.Lookups.{exact_unsigned}
 use Rattle.cost_rows.specs.Merging.{TellsApart}
 use Rattle.cost_rows.specs.Stacks.{counts_added}
-use Rattle.cost_rows.specs.declared.rows.Cell.{Cell}
+use Rattle.cost_rows.specs.declared.rows.CellRow.{CellRow}
 use Rattle.cost_rows.proofs.MergeLemmas.{sum-merge}
 use Rattle.cost_rows.proofs.PlacesLemmas.{both_equal}
 use Rattle.number_sums.specs.Sums.{SumsByNumber, numbers_cmp, numbers_part, numbers_total, numbers_with, with_number}
@@ -45,7 +45,7 @@ is_some n some = elim (cases_Bool (nat_eq n 0)) [
 ]
 
 -- a row's cost, added at its part
-pub row_added : (s : SumsByNumber) (row : Cell ℕ) (sums : List (NumberPart × ℕ)) → (row.cost ≡ 0 → ⊥) → sums ≡ numbers_with (numbers_part s.key row) row.cost s.sums
+pub row_added : (s : SumsByNumber) (row : CellRow ℕ) (sums : List (NumberPart × ℕ)) → (row.cost ≡ 0 → ⊥) → sums ≡ numbers_with (numbers_part s.key row) row.cost s.sums
     → ◌≡◌ {A = SumsByNumber} (record { key = s.key; sums = sums }) (with_number s row)
 row_added s row sums some added =
     let P : List (NumberPart × ℕ) → SumsByNumber = λ es. record { key = s.key; sums = es } in

@@ -17,7 +17,7 @@ use Rattle.cost_rows.specs.Stacks.{counts_added}
 use Rattle.cost_rows.specs.Sums.{Spot}
 use Rattle.cost_rows.specs.declared.keys.Key.{Key}
 use Rattle.cost_rows.specs.declared.keys.Key.TheVariants.{Object, File, Function, Line, Thread}
-use Rattle.cost_rows.specs.declared.rows.Cell.{Cell}
+use Rattle.cost_rows.specs.declared.rows.CellRow.{CellRow}
 use Rattle.cost_rows.proofs.KeysLemmas.{named_cmp-apart}
 use Rattle.cost_rows.proofs.MergeLemmas.{sorted-merge}
 use Rattle.plain_tables.specs.Tables.{NameRow}
@@ -36,7 +36,7 @@ use Rattle.number_sums.proofs.ToldLemmas.{TellsAll, all_moved, all_with, told_ea
 abbrev IsSum : Key → NumberPart × ℕ → Type 0
 IsSum key e = (0 < e.1) × (numbers_part key (number_row e.0 0) ≡ e.0)
 
-part_again : (key : Key) (row : Cell ℕ) → numbers_part key (number_row (numbers_part key row) 0) ≡ numbers_part key row
+part_again : (key : Key) (row : CellRow ℕ) → numbers_part key (number_row (numbers_part key row) 0) ≡ numbers_part key row
 part_again Object row = refl
 part_again File row = refl
 part_again Function row = refl
@@ -46,7 +46,7 @@ part_again Thread row = refl
 above : (n : ℕ) → nat_eq n 0 ≡ false → 0 < n
 above n some = grind (arith, some)
 
-are_sums : (key : Key) (rows : List (Cell ℕ)) (s : SumsByNumber) → s.key ≡ key → AllByRecursion (IsSum key) s.sums → AllByRecursion (IsSum key) (fold with_number s rows).sums
+are_sums : (key : Key) (rows : List (CellRow ℕ)) (s : SumsByNumber) → s.key ≡ key → AllByRecursion (IsSum key) s.sums → AllByRecursion (IsSum key) (fold with_number s rows).sums
 are_sums key [] s is all = all
 are_sums key (row ∷ rows) s is all = are_sums key rows (with_number s row) (row_keeps_key s row ∙ is) (elim (cases_Bool (nat_eq row.cost 0)) [
   | inl none ↦ rw none all
@@ -55,7 +55,7 @@ are_sums key (row ∷ rows) s is all = are_sums key rows (with_number s row) (ro
       (λ e sum. (omega (arith, sum.0), sum.1)) s.sums all)
 ])
 
-are_sorted : (rows : List (Cell ℕ)) (s : SumsByNumber) → IsStrictlySortedBy numbers_cmp (keys_of s.sums) → IsStrictlySortedBy numbers_cmp (keys_of (fold with_number s rows).sums)
+are_sorted : (rows : List (CellRow ℕ)) (s : SumsByNumber) → IsStrictlySortedBy numbers_cmp (keys_of s.sums) → IsStrictlySortedBy numbers_cmp (keys_of (fold with_number s rows).sums)
 are_sorted [] s sorted = sorted
 are_sorted (row ∷ rows) s sorted = are_sorted rows (with_number s row) (elim (cases_Bool (nat_eq row.cost 0)) [
   | inl none ↦ rw none sorted
@@ -170,7 +170,7 @@ module _ (names : List NameRow) (apart : AreApart names) where
     none_before (e ∷ es) = (tt, none_before es)
 
     -- named, the sums of rows are those of the rows that are named first, in another order
-    pub once_named : (rows : List (Cell ℕ)) → AllByRecursion (IsHeld names) (numbers_told key (fold with_number (record { key = key; sums = [] }) rows).sums)
+    pub once_named : (rows : List (CellRow ℕ)) → AllByRecursion (IsHeld names) (numbers_told key (fold with_number (record { key = key; sums = [] }) rows).sums)
         → IsPermutation (map (named_sum names key) (fold with_number (record { key = key; sums = [] }) rows).sums) (sums_by key (map (named_cell names) rows))
     once_named rows held =
         let sums : List (NumberPart × ℕ) = (fold with_number (record { key = key; sums = [] }) rows).sums in

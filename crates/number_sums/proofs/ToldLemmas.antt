@@ -10,7 +10,7 @@ use Rattle.std.proofs.lemmas.List.Sorted.{All-permutation, IsPermutation-sym}
 use Rattle.cost_rows.specs.Stacks.{counts_added}
 use Rattle.cost_rows.specs.declared.keys.Key.{Key}
 use Rattle.cost_rows.specs.declared.keys.Key.TheVariants.{Object, File, Function, Line, Thread}
-use Rattle.cost_rows.specs.declared.rows.Cell.{Cell}
+use Rattle.cost_rows.specs.declared.rows.CellRow.{CellRow}
 use Rattle.number_sums.specs.Sums.{SumsByNumber, numbers_cmp, numbers_part, numbers_told, numbers_with, told, with_number}
 use Rattle.number_sums.specs.declared.parts.NumberPart.{NumberPart}
 use Rattle.number_sums.proofs.NamedSums.{rows_keep_key}
@@ -65,7 +65,7 @@ all_with Q part cost new more (e ∷ es) all = go (numbers_cmp part e.0) (all_wi
     go Greater rest = (all.0, rest)
 
 -- a row tells what its part tells
-row_tells : (P : ℕ → Type 0) (key : Key) (row : Cell ℕ) → P row.object → P row.file → P row.function → AllByRecursion P (told key (numbers_part key row))
+row_tells : (P : ℕ → Type 0) (key : Key) (row : CellRow ℕ) → P row.object → P row.file → P row.function → AllByRecursion P (told key (numbers_part key row))
 row_tells P Object row object file function = (object, tt)
 row_tells P File row object file function = (file, tt)
 row_tells P Function row object file function = (object, (function, tt))
@@ -73,10 +73,10 @@ row_tells P Line row object file function = (file, tt)
 row_tells P Thread row object file function = tt
 
 -- of the numbers of a row's names
-abbrev pub NamesAll : (ℕ → Type 0) → Cell ℕ → Type 0
+abbrev pub NamesAll : (ℕ → Type 0) → CellRow ℕ → Type 0
 NamesAll P row = P row.object × P row.file × P row.function
 
-rows_tell : (P : ℕ → Type 0) (rows : List (Cell ℕ)) (s : SumsByNumber) → AllByRecursion (NamesAll P) rows → AllByRecursion (TellsAll P s.key) s.sums
+rows_tell : (P : ℕ → Type 0) (rows : List (CellRow ℕ)) (s : SumsByNumber) → AllByRecursion (NamesAll P) rows → AllByRecursion (TellsAll P s.key) s.sums
     → AllByRecursion (TellsAll P (fold with_number s rows).key) (fold with_number s rows).sums
 rows_tell P [] s all each = each
 rows_tell P (row ∷ rows) s all each = rows_tell P rows (with_number s row) all.1 (elim (cases_Bool (nat_eq row.cost 0)) [
@@ -85,7 +85,7 @@ rows_tell P (row ∷ rows) s all each = rows_tell P rows (with_number s row) all
 ])
 
 -- what holds of each number of the rows' names holds of each number that their sums tell
-pub told_of_rows : (P : ℕ → Type 0) (key : Key) (rows : List (Cell ℕ)) → AllByRecursion (NamesAll P) rows
+pub told_of_rows : (P : ℕ → Type 0) (key : Key) (rows : List (CellRow ℕ)) → AllByRecursion (NamesAll P) rows
     → AllByRecursion P (numbers_told key (fold with_number (record { key = key; sums = [] }) rows).sums)
 told_of_rows P key rows all =
     let s : SumsByNumber = fold with_number (record { key = key; sums = [] }) rows in

@@ -6,11 +6,11 @@ use Rattle.cost_rows.specs.Merging.{merge, sum_where}
 use Rattle.cost_rows.specs.Stacks.{counts_added}
 use Rattle.cost_rows.specs.declared.keys.Key.{Key}
 use Rattle.cost_rows.specs.declared.keys.Key.TheVariants.{Object, File, Function, Line, Thread}
-use Rattle.cost_rows.specs.declared.rows.Cell.{Cell}
+use Rattle.cost_rows.specs.declared.rows.CellRow.{CellRow}
 use Rattle.number_sums.specs.declared.parts.NumberPart.{NumberPart}
 
 -- the part of a row's place that a key tells, by number; the others are 0
-abbrev pub numbers_part : Key → Cell ℕ → NumberPart
+abbrev pub numbers_part : Key → CellRow ℕ → NumberPart
 numbers_part Object row = record { object = row.object; file = 0; function = 0; line = 0; thread = 0 }
 numbers_part File row = record { object = 0; file = row.file; function = 0; line = 0; thread = 0 }
 numbers_part Function row = record { object = row.object; file = 0; function = row.function; line = 0; thread = 0 }
@@ -35,7 +35,7 @@ abbrev pub numbers_with : NumberPart → ℕ → List (NumberPart × ℕ) → Li
 numbers_with part cost sums = merge numbers_cmp counts_added sums part cost
 
 -- a row's cost is added at its part; a cost of 0 adds nothing
-abbrev pub with_number : SumsByNumber → Cell ℕ → SumsByNumber
+abbrev pub with_number : SumsByNumber → CellRow ℕ → SumsByNumber
 with_number s row =
     if nat_eq row.cost 0 then s
     else record { key = s.key; sums = numbers_with (numbers_part s.key row) row.cost s.sums }
@@ -45,11 +45,11 @@ abbrev pub numbers_total : List (NumberPart × ℕ) → ℕ
 numbers_total = sum_where (λ _. true) (λ n. n)
 
 -- a sum as a row, of event 0
-abbrev pub number_row : NumberPart → ℕ → Cell ℕ
+abbrev pub number_row : NumberPart → ℕ → CellRow ℕ
 number_row part cost = record { object = part.object; file = part.file; function = part.function; line = part.line; thread = part.thread; event = 0; cost = cost }
 
 -- sums as rows
-abbrev pub number_rows : List (NumberPart × ℕ) → List (Cell ℕ)
+abbrev pub number_rows : List (NumberPart × ℕ) → List (CellRow ℕ)
 number_rows [] = []
 number_rows (e ∷ sums) = number_row e.0 e.1 ∷ number_rows sums
 

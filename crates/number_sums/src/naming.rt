@@ -15,7 +15,7 @@ use crate::part_sums::PartSums;
 use crate::parts::NumberPart;
 use crate::sums::NumberSums;
 use cost_reports::LentSums;
-use cost_rows::{Cell, Key};
+use cost_rows::{CellRow, Key};
 use named_rows::held_name;
 use run_stores::{NameTable, StoreError};
 use std::alloc::Global;
@@ -27,7 +27,7 @@ pub(crate) fn named_row<'n, N: NameTable>(
     key: Key,
     part: &NumberPart,
     cost: u128,
-) -> Result<Cell<&'n [u8]>, StoreError>
+) -> Result<CellRow<&'n [u8]>, StoreError>
     ensures sum { IfOk result (λ row. sum_of_row (plain_cell row) ≡ named_sum (N.name_rows names.now) key (part.now, cost)) }
     ensures held { MatchResult result (λ _. AllByRecursion (IsHeld (N.name_rows names.now)) (told key part.now))
         (λ error. (error ≡ Store) × ¬ (AllByRecursion (IsHeld (N.name_rows names.now)) (told key part.now))) }
@@ -43,7 +43,7 @@ pub(crate) fn named_row<'n, N: NameTable>(
         Key::Line => (unknown, held_name(names, part.file)?, unknown, part.line, 0),
         Key::Thread => (unknown, unknown, unknown, 0, part.thread),
     };
-    Ok(Cell {
+    Ok(CellRow {
         object,
         file,
         function,

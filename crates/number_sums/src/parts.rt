@@ -2,7 +2,7 @@
 ghost use Rattle.std.specs.Prelude.{◌≡◌};
 ghost use Rattle.number_sums.specs.Sums.{numbers_part};
 
-use cost_rows::{Cell, Key};
+use cost_rows::{CellRow, Key};
 use std::cmp::Reverse;
 
 /// A part of a place, with names by their numbers.
@@ -33,7 +33,7 @@ const NO_PART: NumberPart = NumberPart {
 };
 
 /// The part of a row's place that a key tells.
-pub(crate) fn part_of_row(key: Key, row: &Cell<u32>) -> NumberPart
+pub(crate) fn part_of_row(key: Key, row: &CellRow<u32>) -> NumberPart
     ensures { result ≡ numbers_part key row.now }
 {
     match key {

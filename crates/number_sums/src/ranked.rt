@@ -14,7 +14,7 @@ use crate::naming::named_row;
 use crate::numbers::push_told;
 use crate::parts::PartSum;
 use crate::sums::NumberSums;
-use cost_rows::{Cell, Key};
+use cost_rows::{CellRow, Key};
 use report_texts::Cut;
 use run_stores::{NameTable, StoreError};
 use std::alloc::{AllocError, Global};
@@ -58,7 +58,10 @@ fn count_tied(rows: &[PartSum], count: usize) -> usize
 }
 
 /// One cell more.
-fn push_cell<'n>(cells: &mut Vec<Cell<&'n [u8]>>, cell: Cell<&'n [u8]>) -> Result<(), AllocError>
+fn push_cell<'n>(
+    cells: &mut Vec<CellRow<&'n [u8]>>,
+    cell: CellRow<&'n [u8]>,
+) -> Result<(), AllocError>
     ensures { OnOk result (cells.new.items ≡ cells.old.items ++ cell.entry ∷ []) }
 {
     cells.push(cell)?;
@@ -71,7 +74,7 @@ fn cells_of<'n, N: NameTable>(
     names: &'n N,
     key: Key,
     rows: &[PartSum],
-) -> Result<Vec<Cell<&'n [u8]>>, StoreError>
+) -> Result<Vec<CellRow<&'n [u8]>>, StoreError>
     ensures sums { IfOk result (λ cells. map (λ r. sum_of_row (plain_cell r)) cells.items
         ≡ map (named_sum (N.name_rows names.now) key) (sums_of rows.now)) }
     ensures held { MatchResult result (λ _. AllByRecursion (IsHeld (N.name_rows names.now)) (numbers_told key (sums_of rows.now)))
@@ -181,7 +184,7 @@ impl RankedSums {
         &self,
         alloc: Global,
         names: &'n N,
-    ) -> Result<Vec<Cell<&'n [u8]>>, StoreError>
+    ) -> Result<Vec<CellRow<&'n [u8]>>, StoreError>
         ensures sums { IfOk result (λ cells. map (λ r. sum_of_row (plain_cell r)) cells.items
             ≡ map (named_sum (N.name_rows names.now) self.now.key) self.now.sums) }
         ensures held { MatchResult result (λ _. AllByRecursion (IsHeld (N.name_rows names.now)) (numbers_told self.now.key self.now.sums))

@@ -4,7 +4,7 @@ ghost use Rattle.number_sums.specs.Sums.{numbers_total, with_number};
 
 use crate::part_sums::PartSums;
 use crate::parts::part_of_row;
-use cost_rows::{Cell, Key};
+use cost_rows::{CellRow, Key};
 use std::alloc::{AllocError, Global};
 use std::marker::Model;
 
@@ -58,7 +58,7 @@ impl NumberSums {
 
     /// Adds a row's cost to the sum of the part of its place that the key tells; a cost of 0 adds nothing. A
     /// refusal leaves the sums as they were.
-    pub fn add(&mut self, row: &Cell<u32>) -> Result<(), AllocError>
+    pub fn add(&mut self, row: &CellRow<u32>) -> Result<(), AllocError>
         requires small { numbers_total self.old.sums + row.now.cost < 2 ^ 112 }
         ensures ok { OnOk result (self.new ≡ with_number self.old row.now) }
         ensures total { OnOk result (numbers_total self.new.sums ≡ numbers_total self.old.sums + row.now.cost) }

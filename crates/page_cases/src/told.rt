@@ -1,6 +1,6 @@
 // What a store tells of all that it holds, as bytes that are compared. No guarantees: the tests see whether two are the same.
 use cg_text::ListVec;
-use cost_rows::{CallEdge, Cell, StackCount};
+use cost_rows::{ArcRow, CellRow, StackRow};
 use run_stores::{
     CallSink, CellSink, Kind, NameTable, RunEntry, RunStore, StackRowSink, StoreError,
 };
@@ -46,7 +46,7 @@ impl CellSink for Rows {
 
     ghost step = { λ _ _. tt };
 
-    fn take(&mut self, row: &Cell<u32>) -> Result<(), StoreError> {
+    fn take(&mut self, row: &CellRow<u32>) -> Result<(), StoreError> {
         push_small(&mut self.told, &[row.object, row.file, row.function])?;
         let numbers = [
             u128::from(row.line),
@@ -67,7 +67,7 @@ impl CallSink for Rows {
 
     ghost step = { λ _ _. tt };
 
-    fn take(&mut self, row: CallEdge<u32, ListVec<u128>>) -> Result<(), StoreError> {
+    fn take(&mut self, row: ArcRow<u32, ListVec<u128>>) -> Result<(), StoreError> {
         push_small(&mut self.told, &[row.object, row.file, row.function])?;
         let called = [row.called_object, row.called_file, row.called_function];
         push_small(&mut self.told, &called)?;
@@ -85,7 +85,7 @@ impl StackRowSink for Rows {
 
     ghost step = { λ _ _. tt };
 
-    fn take(&mut self, row: &StackCount<&[u8]>) -> Result<(), StoreError> {
+    fn take(&mut self, row: &StackRow<&[u8]>) -> Result<(), StoreError> {
         push_bytes(&mut self.told, row.stack)?;
         Ok(push_numbers(&mut self.told, &[row.count])?)
     }

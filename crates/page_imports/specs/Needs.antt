@@ -3,7 +3,7 @@ use Rattle.std.specs.Prelude.{◌≡◌, ◌≢◌, ℕ, ◌<◌, ◌==◌, fals
 use Rattle.std.specs.List.{AllByRecursion, list_any}
 use Rattle.plain_tables.specs.Changes.{has_run}
 use Rattle.plain_tables.specs.Lists.{Has}
-use Rattle.plain_tables.specs.Tables.{Tables, RunRow as Run, CellRow, CallRow, StackRow}
+use Rattle.plain_tables.specs.Tables.{Tables, RunRow as Run, StoredCell, StoredCall, StoredStack}
 use Rattle.prof_books.specs.Book.{AreOf}
 use Rattle.store_schema.specs.Lines.{coef_row, derived_row, event_row}
 use Rattle.store_schema.specs.declared.table_rows.HeadRows.{HeadRows}
@@ -30,17 +30,17 @@ pub record CanBegin (run : RunRow) (head : HeadRows) (t : Tables) : Type 0 where
 -- the run is held, and has no cell yet
 pub record HasNoCell (n : ℕ) (t : Tables) : Type 0 where
   pub held : has_run t n ≡ true
-  pub none : list_any (λ (c : CellRow). c.run == n) t.cells ≡ false
+  pub none : list_any (λ (c : StoredCell). c.run == n) t.cells ≡ false
 
 -- no call
 pub record HasNoCall (n : ℕ) (t : Tables) : Type 0 where
   pub held : has_run t n ≡ true
-  pub none : list_any (λ (a : CallRow). a.run == n) t.calls ≡ false
+  pub none : list_any (λ (a : StoredCall). a.run == n) t.calls ≡ false
 
 -- no stack
 pub record HasNoStack (n : ℕ) (t : Tables) : Type 0 where
   pub held : has_run t n ≡ true
-  pub none : list_any (λ (s : StackRow). s.run == n) t.stacks ≡ false
+  pub none : list_any (λ (s : StoredStack). s.run == n) t.stacks ≡ false
 
 -- none of them
 pub record HasNoRow (n : ℕ) (t : Tables) : Type 0 where

@@ -17,7 +17,7 @@ use Rattle.page_places.proofs.Placing.{index_placed_at, placed_at}
 use Rattle.page_files.specs.declared.files.PageFile.{PageFile}
 use Rattle.page_files.specs.Held.{Writes}
 use Rattle.page_files.proofs.Standing.{catalog_shown, stands_writing}
-use Rattle.plain_tables.specs.Tables.{Tables, EventRow, DerivedRow, CoefRow, CellRow, CallRow, StackRow}
+use Rattle.plain_tables.specs.Tables.{Tables, EventRow, DerivedRow, CoefRow, StoredCell, StoredCall, StoredStack}
 use Rattle.row_writes.specs.declared.places.IndexPlace.{IndexPlace}
 use Rattle.row_writes.specs.declared.places.Place.{Place}
 use Rattle.row_writes.specs.Changes.{HasRows, Shows}
@@ -94,21 +94,21 @@ module _ {D : Type 0} {g : Ghosts D} (n : ℕ) (new : PageFile D g) (wanted : Li
     holds_left = coefs_taken_out t now h.next holds n (λ r. not (is_under (pos n) r)) h.only (subst (IsShaped shape.Table) (sym h.rows_are) h.shaped) h.rows_are (λ id x there. ap not (same_number x.run n));
   }
 
-  pub cells_out : Erased thread_cell_at → Left thread_cell_at (λ s. record s { cells = filter (λ (x : CellRow). not (x.run == n)) s.cells })
+  pub cells_out : Erased thread_cell_at → Left thread_cell_at (λ s. record s { cells = filter (λ (x : StoredCell). not (x.run == n)) s.cells })
   cells_out h = record {
     next = h.next;
     writes = h.writes;
     holds_left = cells_taken_out t now h.next holds n (λ r. not (is_under (pos n) r)) h.only (subst (IsShaped shape.Table) (sym h.rows_are) h.shaped) h.rows_are (λ id x there. ap not (same_number x.run n));
   }
 
-  pub calls_out : Erased arc_at → Left arc_at (λ s. record s { calls = filter (λ (x : CallRow). not (x.run == n)) s.calls })
+  pub calls_out : Erased arc_at → Left arc_at (λ s. record s { calls = filter (λ (x : StoredCall). not (x.run == n)) s.calls })
   calls_out h = record {
     next = h.next;
     writes = h.writes;
     holds_left = calls_taken_out t now h.next holds n (λ r. not (is_under (pos n) r)) h.only (subst (IsShaped shape.Table) (sym h.rows_are) h.shaped) h.rows_are (λ id x there. ap not (same_number x.run n));
   }
 
-  pub stacks_out : Erased stack_at → Left stack_at (λ s. record s { stacks = filter (λ (x : StackRow). not (x.run == n)) s.stacks })
+  pub stacks_out : Erased stack_at → Left stack_at (λ s. record s { stacks = filter (λ (x : StoredStack). not (x.run == n)) s.stacks })
   stacks_out h = record {
     next = h.next;
     writes = h.writes;

@@ -15,7 +15,7 @@ use Rattle.page_files.specs.Held.{Rests, Writes}
 use Rattle.plain_tables.specs.Changes.{has_baseline, has_run, unbased, without_run}
 use Rattle.page_places.specs.Failures.{FailsToStore}
 use Rattle.plain_tables.specs.declared.errors.StoreError.{StoreError}
-use Rattle.plain_tables.specs.Tables.{Tables, EventRow, DerivedRow, CoefRow, CellRow, CallRow, StackRow, GroupRow, MemberRow}
+use Rattle.plain_tables.specs.Tables.{Tables, EventRow, DerivedRow, CoefRow, StoredCell, StoredCall, StoredStack, GroupRow, MemberRow}
 use Rattle.row_writes.specs.declared.places.Place.{Place}
 use Rattle.row_writes.specs.Changes.{AtTable, HasRows, Shows}
 use Rattle.row_writes.specs.Places.{indexes_of}
@@ -42,9 +42,9 @@ without_events n t = record t {
 -- without its costs
 abbrev pub without_costs : ℕ → Tables → Tables
 without_costs n t = record t {
-  cells = filter (λ (c : CellRow). not (c.run == n)) t.cells;
-  calls = filter (λ (a : CallRow). not (a.run == n)) t.calls;
-  stacks = filter (λ (s : StackRow). not (s.run == n)) t.stacks;
+  cells = filter (λ (c : StoredCell). not (c.run == n)) t.cells;
+  calls = filter (λ (a : StoredCall). not (a.run == n)) t.calls;
+  stacks = filter (λ (s : StoredStack). not (s.run == n)) t.stacks;
 }
 
 -- in no group

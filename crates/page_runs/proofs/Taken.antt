@@ -4,7 +4,7 @@ use Rattle.sqlite_disk.specs.declared.Disk.{Ghosts}
 use Rattle.sqlite_store.specs.declared.catalog.Wanted.{Wanted}
 use Rattle.sqlite_trees.specs.Tree.{Trees}
 use Rattle.sql_tables.proofs.Contents.{content_there}
-use Rattle.plain_tables.specs.Tables.{Tables, CellRow, CallRow, StackRow}
+use Rattle.plain_tables.specs.Tables.{Tables, StoredCell, StoredCall, StoredStack}
 use Rattle.store_schema.specs.Schema.{schema_two, name_at, thread_cell_at, arc_at, stack_at}
 use Rattle.store_schema.specs.Tables.{Holds, contents_of, name_columns, cell_columns, arc_columns, stack_columns}
 use Rattle.run_lists.specs.Listed.{AreListed}
@@ -23,9 +23,9 @@ module _ {D : Type 0} {g : Ghosts D} where
   -- the large tables stand under the roots of a store, with these rows
   pub record ShowsLarge (t : Tables) (store : PageRuns D g) : Type 0 where
     pub names : ShowsRows store.file store.roots.names (map name_columns t.names)
-    pub cells : ShowsLines store.file store.roots.cells cell_columns (λ (c : CellRow). c.run) t.cells
-    pub calls : ShowsLines store.file store.roots.calls arc_columns (λ (a : CallRow). a.run) t.calls
-    pub stacks : ShowsLines store.file store.roots.stacks stack_columns (λ (s : StackRow). s.run) t.stacks
+    pub cells : ShowsLines store.file store.roots.cells cell_columns (λ (c : StoredCell). c.run) t.cells
+    pub calls : ShowsLines store.file store.roots.calls arc_columns (λ (a : StoredCall). a.run) t.calls
+    pub stacks : ShowsLines store.file store.roots.stacks stack_columns (λ (s : StoredStack). s.run) t.stacks
 
   pub large_shown : (t : Tables) (store : PageRuns D g) → ShowsTables t store → ShowsLarge t store
   large_shown t store is =

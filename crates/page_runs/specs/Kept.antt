@@ -3,13 +3,13 @@ use Rattle.std.specs.Prelude.{◌≡◌, ℕ, List, map, IsTrue, IfSome}
 use Rattle.std.specs.BTreeMap.{get}
 use Rattle.std.specs.Ordering.{nat_cmp}
 use Rattle.plain_tables.specs.RunRows.{cells_in}
-use Rattle.plain_tables.specs.Tables.{Tables, CellRow}
+use Rattle.plain_tables.specs.Tables.{Tables, StoredCell}
 use Rattle.run_stores.specs.Walks.{cell_numbers}
 use Rattle.page_runs.specs.declared.kept.Gathered.{Gathered}
 use Rattle.page_runs.specs.declared.kept.KeptCells.{KeptCells}
 
 -- where they are whole, they are those of these lines
-abbrev pub HasGathered : List CellRow → Gathered → Type 0
+abbrev pub HasGathered : List StoredCell → Gathered → Type 0
 HasGathered lines g = IsTrue g.is_whole → g.cells.items ≡ map cell_numbers lines
 
 -- where cells of a run are kept, they are those of the tables

@@ -3,7 +3,7 @@ ghost use Rattle.std.specs.Prelude.{◌≡◌, ◌∷◌, List, fold, map, IfOk}
 ghost use Rattle.sqlite_record.specs.Fields.{fields_left};
 ghost use Rattle.page_files.specs.Files.{IsFaithful, OnlyReads};
 ghost use Rattle.plain_tables.specs.RunRows.{cells_in, calls_in, stacks_in};
-ghost use Rattle.plain_tables.specs.Tables.{Tables, CellRow as Cell, CallRow as Call, StackRow as Stack};
+ghost use Rattle.plain_tables.specs.Tables.{Tables, StoredCell, StoredCall, StoredStack};
 ghost use Rattle.prof_books.specs.Book.{stacks_held};
 ghost use Rattle.run_stores.specs.Walks.{CallsFoldTo, CellsFoldTo, cell_numbers};
 ghost use Rattle.store_schema.specs.Lines.{call_row, cell_row, held_stack};
@@ -16,7 +16,7 @@ use crate::fields::{copied_in, end_of, number_in, whole_in};
 use crate::hints::Hints;
 use crate::kept::{Gathered, KeptCells};
 use crate::run_rows::{Added, LineSink, RunTable, each_line};
-use cost_rows::Cell as CellOf;
+use cost_rows::CellRow;
 use held_lines::{CallLines, CellLines, StackLines};
 use page_files::PageFile;
 use plain_tables::StoreError;
@@ -24,10 +24,10 @@ use run_stores::{CallSink, CellSink, StackRowSink};
 use sqlite_disk::Disk;
 use sqlite_record::fields::Fields;
 use std::alloc::Global;
-use store_schema::{CallRow, CellRow, HeldStack, OutOfForm};
+use store_schema::{HeldStack, OutOfForm, StoredCall, StoredCell};
 
 /// The cell of a run that a record says behind the run.
-fn read_cell(run: u32, mut fields: Fields<'_>) -> Result<CellRow, OutOfForm>
+fn read_cell(run: u32, mut fields: Fields<'_>) -> Result<StoredCell, OutOfForm>
     ensures { IfOk result (λ line. cell_columns (cell_row line) ≡ number run ∷ fields_left fields.entry) }
 {
     let thread = whole_in(&mut fields)?;
@@ -38,7 +38,7 @@ fn read_cell(run: u32, mut fields: Fields<'_>) -> Result<CellRow, OutOfForm>
     let event = number_in(&mut fields)?;
     let cost = whole_in(&mut fields)?;
     end_of(&mut fields)?;
-    Ok(CellRow {
+    Ok(StoredCell {
         run,
         object,
         file,
@@ -51,7 +51,7 @@ fn read_cell(run: u32, mut fields: Fields<'_>) -> Result<CellRow, OutOfForm>
 }
 
 /// The part of calls of a run that a record says behind the run.
-fn read_call(run: u32, mut fields: Fields<'_>) -> Result<CallRow, OutOfForm>
+fn read_call(run: u32, mut fields: Fields<'_>) -> Result<StoredCall, OutOfForm>
     ensures { IfOk result (λ line. arc_columns (call_row line) ≡ number run ∷ fields_left fields.entry) }
 {
     let object = number_in(&mut fields)?;
@@ -64,7 +64,7 @@ fn read_call(run: u32, mut fields: Fields<'_>) -> Result<CallRow, OutOfForm>
     let part = number_in(&mut fields)?;
     let sum = whole_in(&mut fields)?;
     end_of(&mut fields)?;
-    Ok(CallRow {
+    Ok(StoredCall {
         run,
         object,
         file,
@@ -97,12 +97,12 @@ struct GatheredLines<T> {
 
 impl<T: CellSink + Drop> LineSink for GatheredLines<T> {
     ghost use Rattle.std.specs.Prelude.{ℕ};
-    ghost use Rattle.plain_tables.specs.Tables.{CellRow as Cell};
+    ghost use Rattle.plain_tables.specs.Tables.{StoredCell};
     ghost use Rattle.store_schema.specs.Tables.{cell_columns};
     ghost use Rattle.held_lines.specs.HeldCells.{HasTakenCellLines};
     ghost use Rattle.page_runs.specs.Kept.{HasGathered};
 
-    ghost Line = { Cell };
+    ghost Line = { StoredCell };
 
     ghost part = { λ line. line.event };
 
@@ -128,7 +128,7 @@ impl<T: CellSink + Drop> LineSink for GatheredLines<T> {
 
 impl<T: CallSink + Drop> LineSink for CallLines<T> {
     ghost use Rattle.std.specs.Prelude.{ℕ};
-    ghost use Rattle.plain_tables.specs.Tables.{CallRow as Call};
+    ghost use Rattle.plain_tables.specs.Tables.{StoredCall as Call};
     ghost use Rattle.store_schema.specs.Tables.{arc_columns};
     ghost use Rattle.held_lines.specs.HeldCalls.{HasTakenCallLines};
 
@@ -163,7 +163,7 @@ struct CopiedStacks<T> {
 }
 
 impl<T: StackRowSink + Drop> LineSink for CopiedStacks<T> {
-    ghost use Rattle.plain_tables.specs.Tables.{StackRow as Stack};
+    ghost use Rattle.plain_tables.specs.Tables.{StoredStack as Stack};
     ghost use Rattle.store_schema.specs.Tables.{stack_columns};
     ghost use Rattle.held_lines.specs.HeldStacks.{HasTakenStackLines};
 
@@ -192,7 +192,7 @@ impl<T: StackRowSink + Drop> LineSink for CopiedStacks<T> {
 
 /// Hands on cells that are kept, as `RunStore::each_cell`.
 pub(crate) fn each_kept<T: CellSink + Drop>(
-    cells: &[CellOf<u32>],
+    cells: &[CellRow<u32>],
     events: usize,
     mut sink: T,
 ) -> Result<T, StoreError>
@@ -218,9 +218,9 @@ pub(crate) fn each_cell<D: Disk, T: CellSink + Drop>(
     events: usize,
     sink: T,
 ) -> Result<(T, Gathered), StoreError>
-    ensures told { IsFaithful file.new → (t : Tables) → ShowsLines file.old table.root cell_columns (λ (c : Cell). c.run) t.cells
+    ensures told { IsFaithful file.new → (t : Tables) → ShowsLines file.old table.root cell_columns (λ (c : StoredCell). c.run) t.cells
         → IfOk result (λ r. CellsFoldTo events T.step (T.meaning sink) (T.meaning r.0) (cells_in table.run t)
-        × SumTo (λ (c : Cell). c.event) (λ (c : Cell). c.cost) (cells_in table.run t) table.sums.items × HasGathered (cells_in table.run t) r.1) }
+        × SumTo (λ (c : StoredCell). c.event) (λ (c : StoredCell). c.cost) (cells_in table.run t) table.sums.items × HasGathered (cells_in table.run t) r.1) }
     ensures reads { OnlyReads file.old file.new }
 {
     let lines = GatheredLines {

@@ -4,19 +4,19 @@ ghost use Rattle.std.specs.BTreeMap.{values};
 ghost use Rattle.store_schema.specs.Lines.{cell_row};
 ghost use Rattle.run_stores.specs.Walks.{cell_numbers};
 
-use cost_rows::Cell;
+use cost_rows::CellRow;
 use std::alloc::Global;
 use std::collections::BTreeMap;
-use store_schema::CellRow;
+use store_schema::StoredCell;
 
 /// How many cells a small run has at most, 256 KB.
 const SMALL_RUN: usize = 4096;
 
 /// The cell of a line.
-fn cell_of(line: &CellRow) -> Cell<u32>
+fn cell_of(line: &StoredCell) -> CellRow<u32>
     ensures { result ≡ cell_numbers (cell_row line.now) }
 {
-    Cell {
+    CellRow {
         object: line.object,
         file: line.file,
         function: line.function,
@@ -30,18 +30,18 @@ fn cell_of(line: &CellRow) -> Cell<u32>
 /// The cells of a run that is walked. They are not whole once they are too many, or there is no memory for them.
 #[derive(Drop)]
 pub(crate) struct Gathered {
-    cells: Vec<Cell<u32>>,
+    cells: Vec<CellRow<u32>>,
     most: usize,
     is_whole: bool,
 }
 
 impl Gathered {
     ghost use Rattle.std.specs.Prelude.{◌++◌, ◌∷◌, [], List};
-    ghost use Rattle.plain_tables.specs.Tables.{CellRow as Line};
+    ghost use Rattle.plain_tables.specs.Tables.{StoredCell as Line};
     ghost use Rattle.page_runs.specs.Kept.{HasGathered};
 
     /// Adds the cell of a line.
-    pub fn add(&mut self, line: &CellRow)
+    pub fn add(&mut self, line: &StoredCell)
         ensures { (lines : List Line) → HasGathered lines self.old → HasGathered (lines ++ cell_row line.now ∷ []) self.new }
     {
         if self.is_whole && self.cells.len() < self.most && self.cells.push(cell_of(line)).is_ok() {
@@ -56,7 +56,7 @@ impl Gathered {
 #[derive(Drop)]
 pub(crate) struct KeptCells {
     alloc: Global,
-    runs: BTreeMap<u32, Vec<Cell<u32>>>,
+    runs: BTreeMap<u32, Vec<CellRow<u32>>>,
     /// How many more cells may be kept. A run takes the room of one more than its own.
     room: usize,
     limit: usize,
@@ -83,7 +83,7 @@ impl KeptCells {
     }
 
     /// The cells of a run, if they are kept.
-    pub fn cells_of(&self, run: u32) -> Option<&[Cell<u32>]>
+    pub fn cells_of(&self, run: u32) -> Option<&[CellRow<u32>]>
         ensures { (t : Tables) → AreKept t self.now → IfSome result (λ cells. cells.now ≡ map cell_numbers (cells_in run t)) }
     {
         match self.runs.get(&run) {

@@ -3,7 +3,7 @@ use Rattle.std.specs.Prelude.{◌≡◌, ◌<◌, ℕ, List, true}
 use Rattle.std.specs.List.{AllByRecursion}
 use Rattle.plain_tables.specs.Changes.{has_run}
 use Rattle.plain_tables.specs.Lists.{IsAscending}
-use Rattle.plain_tables.specs.Tables.{Tables, RunRow, NameRow, EventRow, DerivedRow, CoefRow, CellRow, CallRow, StackRow}
+use Rattle.plain_tables.specs.Tables.{Tables, RunRow, NameRow, EventRow, DerivedRow, CoefRow, StoredCell, StoredCall, StoredStack}
 
 -- rows that are of runs that are held
 abbrev pub AreOfRuns : {X : Type 0} → Tables → (X → ℕ) → List X → Type 0
@@ -16,6 +16,6 @@ pub record AreSound (t : Tables) : Type 0 where
   pub events : AreOfRuns t (λ (e : EventRow). e.run) t.events
   pub derived : AreOfRuns t (λ (d : DerivedRow). d.run) t.derived
   pub coefs : AreOfRuns t (λ (c : CoefRow). c.run) t.coefs
-  pub cells : AreOfRuns t (λ (c : CellRow). c.run) t.cells
-  pub calls : AreOfRuns t (λ (a : CallRow). a.run) t.calls
-  pub stacks : AreOfRuns t (λ (s : StackRow). s.run) t.stacks
+  pub cells : AreOfRuns t (λ (c : StoredCell). c.run) t.cells
+  pub calls : AreOfRuns t (λ (a : StoredCall). a.run) t.calls
+  pub stacks : AreOfRuns t (λ (s : StoredStack). s.run) t.stacks

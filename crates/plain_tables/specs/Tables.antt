@@ -37,7 +37,7 @@ pub record NameRow : Type 0 where
   pub name : List ℕ
 
 -- the sum of an event's self costs at a place, names by number
-pub record CellRow : Type 0 where
+pub record StoredCell : Type 0 where
   pub run : ℕ
   pub object : ℕ
   pub file : ℕ
@@ -48,7 +48,7 @@ pub record CellRow : Type 0 where
   pub cost : ℕ
 
 -- a part of the calls from a place to a function: part 0 counts them, part k + 1 is their cost in column k
-pub record CallRow : Type 0 where
+pub record StoredCall : Type 0 where
   pub run : ℕ
   pub object : ℕ
   pub file : ℕ
@@ -61,7 +61,7 @@ pub record CallRow : Type 0 where
   pub sum : ℕ
 
 -- how often a stack was seen
-pub record StackRow : Type 0 where
+pub record StoredStack : Type 0 where
   pub run : ℕ
   pub frames : List ℕ
   pub count : ℕ
@@ -82,9 +82,9 @@ pub record Tables : Type 0 where
   pub derived : List DerivedRow
   pub coefs : List CoefRow
   pub names : List NameRow
-  pub cells : List CellRow
-  pub calls : List CallRow
-  pub stacks : List StackRow
+  pub cells : List StoredCell
+  pub calls : List StoredCall
+  pub stacks : List StoredStack
   pub groups : List GroupRow
   pub members : List MemberRow
 

@@ -5,7 +5,7 @@ use Rattle.std.specs.List.{AllByRecursion}
 use Rattle.plain_tables.proofs.Lists.{all-append, map-append}
 use Rattle.cost_rows.specs.Content.{Content}
 use Rattle.cost_rows.specs.Held.{AreHeld}
-use Rattle.plain_tables.specs.Tables.{Tables, RunRow, EventRow, DerivedRow, CoefRow, NameRow, CellRow, CallRow, StackRow, GroupRow, MemberRow, new_tables}
+use Rattle.plain_tables.specs.Tables.{Tables, RunRow, EventRow, DerivedRow, CoefRow, NameRow, StoredCell, StoredCall, StoredStack, GroupRow, MemberRow, new_tables}
 use Rattle.plain_tables.specs.Sound.{AreSound}
 use Rattle.plain_tables.specs.Changes.{without_run, has_baseline, unbased}
 use Rattle.plain_tables.specs.Files.{all_named, numbers_in}
@@ -90,10 +90,10 @@ all_on P Q (x ∷ xs) weaker h = (weaker x h.0, all_on P Q xs weaker h.1)
 -- ---- rows keep their names while further names come
 
 module _ (names more : List NameRow) where
-  cell_kept : (c : CellRow) → CellIsNamed names c → cell_held (names ++ more) c ≡ cell_held names c
+  cell_kept : (c : StoredCell) → CellIsNamed names c → cell_held (names ++ more) c ≡ cell_held names c
   cell_kept c h = cc (name_kept names more c.object h.0, name_kept names more c.file h.1, name_kept names more c.function h.2)
 
-  part_kept : (a : CallRow) → CallIsNamed names a → part_held (names ++ more) a ≡ part_held names a
+  part_kept : (a : StoredCall) → CallIsNamed names a → part_held (names ++ more) a ≡ part_held names a
   part_kept a h =
       cc (
         name_kept names more a.object h.0,
@@ -104,10 +104,10 @@ module _ (names more : List NameRow) where
         name_kept names more a.called_function h.5,
       )
 
-  cell_stays : (c : CellRow) → CellIsNamed names c → CellIsNamed (names ++ more) c
+  cell_stays : (c : StoredCell) → CellIsNamed names c → CellIsNamed (names ++ more) c
   cell_stays c h = (held_more names more c.object h.0, held_more names more c.file h.1, held_more names more c.function h.2)
 
-  call_stays : (a : CallRow) → CallIsNamed names a → CallIsNamed (names ++ more) a
+  call_stays : (a : StoredCall) → CallIsNamed names a → CallIsNamed (names ++ more) a
   call_stays a h = (
     held_more names more a.object h.0,
     held_more names more a.file h.1,
@@ -173,10 +173,10 @@ module _ (r : RunRow) (events : List EventRow) (derived : List DerivedRow) (coef
     below : {X : Type 0} (run : X → ℕ) (lines : List X) → AllByRecursion (λ x. run x < t.next) lines → AllByRecursion (λ x. run x < r.number) lines
     below run lines h = subst (λ n. AllByRecursion (λ x. run x < n) lines) (sym number) h
 
-    cell_same : (l : CellRow) → CellIsNamed t.names l → cell_held known.names l ≡ cell_held t.names l
+    cell_same : (l : StoredCell) → CellIsNamed t.names l → cell_held known.names l ≡ cell_held t.names l
     cell_same l h = ap (λ names. cell_held names l) names_are ∙ cell_kept t.names grown.0 l h
 
-    part_same : (l : CallRow) → CallIsNamed t.names l → part_held known.names l ≡ part_held t.names l
+    part_same : (l : StoredCall) → CallIsNamed t.names l → part_held known.names l ≡ part_held t.names l
     part_same l h = ap (λ names. part_held names l) names_are ∙ part_kept t.names grown.0 l h
 
     -- the runs that were there are as they were
@@ -250,9 +250,9 @@ module _ (n : ℕ) (t : Tables) where
         left_lines (λ (e : EventRow). e.run) r.number n t.events other,
         left_lines (λ (d : DerivedRow). d.run) r.number n t.derived other,
         left_lines (λ (k : CoefRow). k.run) r.number n t.coefs other,
-        ap (map (cell_held t.names)) (left_lines (λ (l : CellRow). l.run) r.number n t.cells other),
-        ap (map (part_held t.names)) (left_lines (λ (l : CallRow). l.run) r.number n t.calls other),
-        ap (map stack_held) (left_lines (λ (l : StackRow). l.run) r.number n t.stacks other),
+        ap (map (cell_held t.names)) (left_lines (λ (l : StoredCell). l.run) r.number n t.cells other),
+        ap (map (part_held t.names)) (left_lines (λ (l : StoredCall). l.run) r.number n t.calls other),
+        ap (map stack_held) (left_lines (λ (l : StoredStack). l.run) r.number n t.stacks other),
       )
 
   left_runs : (runs : List RunRow) → map (run_held (without_run n t)) (filter (λ (r : RunRow). not (r.number == n)) runs) ≡ filter (λ (b : RunBook). not (b.line.number == n)) (map (run_held t) runs)
@@ -272,7 +272,7 @@ module _ (n : ℕ) (t : Tables) where
       (left_runs t.runs)
 
   pub named_dropped : IsNamed t → IsNamed (without_run n t)
-  named_dropped h = record { cells = all_filter (CellIsNamed t.names) (λ (l : CellRow). not (l.run == n)) t.cells h.cells; calls = all_filter (CallIsNamed t.names) (λ (l : CallRow). not (l.run == n)) t.calls h.calls }
+  named_dropped h = record { cells = all_filter (CellIsNamed t.names) (λ (l : StoredCell). not (l.run == n)) t.cells h.cells; calls = all_filter (CallIsNamed t.names) (λ (l : StoredCall). not (l.run == n)) t.calls h.calls }
 
 -- ---- other groups and members
 

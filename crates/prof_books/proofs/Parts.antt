@@ -5,14 +5,14 @@ use Rattle.std.specs.List.{AllByRecursion}
 use Rattle.plain_tables.proofs.Lists.{all-append}
 use Rattle.cost_rows.specs.Sums.{Spot}
 use Rattle.cost_rows.specs.WalkSums.{caller_of_row, callee_of_row, calls_cost, calls_count, has_calls}
-use Rattle.cost_rows.specs.declared.rows.CallEdge.{CallEdge}
+use Rattle.cost_rows.specs.declared.rows.ArcRow.{ArcRow}
 use Rattle.cost_rows.proofs.AboveLemmas.{all-above}
 use Rattle.cost_rows.proofs.WalkSumsLemmas.{is_above, column_from, column-before, column-at, one_more, none_more, nothing_each_way}
 use Rattle.prof_books.specs.Book.{CallPart, part_of, parts_from, parts_of}
 use Rattle.prof_books.specs.Parts.{caller_of_part, callee_of_part, parts_sum, has_part, AreOfRows, HasItsFirst, AreWhole}
 
 module _ (passes : Spot → Spot → Bool) (n : ℕ) where
-  abbrev passes_row : CallEdge (List ℕ) (List ℕ) → Bool
+  abbrev passes_row : ArcRow (List ℕ) (List ℕ) → Bool
   passes_row r = passes (caller_of_row r) (callee_of_row r)
 
   sum-append : (xs ys : List CallPart) → parts_sum passes n (xs ++ ys) ≡ parts_sum passes n xs + parts_sum passes n ys
@@ -24,7 +24,7 @@ module _ (passes : Spot → Spot → Bool) (n : ℕ) where
       let rest : parts_sum passes n (xs ++ ys) ≡ a + b = sum-append xs ys in
       omega (arith, rest)
 
-  sum-from : (r : CallEdge (List ℕ) (List ℕ)) (part : ℕ) (costs : List ℕ) → parts_sum passes n (parts_from r part costs) ≡ (if passes_row r then column_from part n costs else 0)
+  sum-from : (r : ArcRow (List ℕ) (List ℕ)) (part : ℕ) (costs : List ℕ) → parts_sum passes n (parts_from r part costs) ≡ (if passes_row r then column_from part n costs else 0)
   sum-from r part [] = nothing_each_way (passes_row r)
   sum-from r part (zero ∷ costs) = sum-from r (suc part) costs ∙ none_more (passes_row r) (part == n) (column_from (suc part) n costs)
   sum-from r part (suc m ∷ costs) =
@@ -45,7 +45,7 @@ none_is : (k : ℕ) → eqb 0 (suc k) ≡ false
 none_is k = grind (arith, nat_tests)
 
 module _ (passes : Spot → Spot → Bool) where
-  pub counts_are : (rows : List (CallEdge (List ℕ) (List ℕ))) → calls_count passes rows ≡ parts_sum passes 0 (flat_map parts_of rows)
+  pub counts_are : (rows : List (ArcRow (List ℕ) (List ℕ))) → calls_count passes rows ≡ parts_sum passes 0 (flat_map parts_of rows)
   counts_are [] = refl
   counts_are (r ∷ rows) =
       let p = passes (caller_of_row r) (callee_of_row r) in
@@ -54,7 +54,7 @@ module _ (passes : Spot → Spot → Bool) where
       let rest : calls_count passes rows ≡ parts_sum passes 0 (flat_map parts_of rows) = counts_are rows in
       omega (arith, one, rest, sum-append passes 0 (parts_of r) (flat_map parts_of rows))
 
-  pub costs_are : (k : ℕ) (rows : List (CallEdge (List ℕ) (List ℕ))) → calls_cost passes k rows ≡ parts_sum passes (suc k) (flat_map parts_of rows)
+  pub costs_are : (k : ℕ) (rows : List (ArcRow (List ℕ) (List ℕ))) → calls_cost passes k rows ≡ parts_sum passes (suc k) (flat_map parts_of rows)
   costs_are k [] = refl
   costs_are k (r ∷ rows) =
       let p = passes (caller_of_row r) (callee_of_row r) in
@@ -88,7 +88,7 @@ module _ (passes : Spot → Spot → Bool) where
       joined false b d = refl
 
   -- costs are no part 0
-  none-from : (r : CallEdge (List ℕ) (List ℕ)) (part : ℕ) (costs : List ℕ) → has_part passes (parts_from r (suc part) costs) ≡ false
+  none-from : (r : ArcRow (List ℕ) (List ℕ)) (part : ℕ) (costs : List ℕ) → has_part passes (parts_from r (suc part) costs) ≡ false
   none-from r part [] = refl
   none-from r part (zero ∷ costs) = none-from r (suc part) costs
   none-from r part (suc m ∷ costs) =
@@ -96,7 +96,7 @@ module _ (passes : Spot → Spot → Bool) where
       ∙ ap₂ (λ b d. (passes (caller_of_row r) (callee_of_row r) && b) || d) (later_is part) (none-from r (suc part) costs)
       ∙ and_none (passes (caller_of_row r) (callee_of_row r)) false
 
-  pub calls_are : (rows : List (CallEdge (List ℕ) (List ℕ))) → has_calls passes rows ≡ has_part passes (flat_map parts_of rows)
+  pub calls_are : (rows : List (ArcRow (List ℕ) (List ℕ))) → has_calls passes rows ≡ has_part passes (flat_map parts_of rows)
   calls_are [] = refl
   calls_are (r ∷ rows) =
       let p : Bool = passes (caller_of_row r) (callee_of_row r) in
@@ -120,13 +120,13 @@ all_weaker P Q [] weaker all = tt
 all_weaker P Q (p ∷ ps) weaker all = (weaker p all.0, all_weaker P Q ps weaker all.1)
 
 -- each part of a row is of the calls of its part 0
-row_has_first : (r : CallEdge (List ℕ) (List ℕ)) → AllByRecursion (HasItsFirst (parts_of r)) (parts_of r)
+row_has_first : (r : ArcRow (List ℕ) (List ℕ)) → AllByRecursion (HasItsFirst (parts_of r)) (parts_of r)
 row_has_first r = (first, all-above (HasItsFirst (parts_of r)) (part_of r) (λ part sum above. first) 1 r.costs)
   where
     first : (passes : Spot → Spot → Bool) → passes (caller_of_row r) (callee_of_row r) ≡ true → has_part passes (parts_of r) ≡ true
     first passes is = ap (λ b. (b && true) || has_part passes (parts_from r 1 r.costs)) is
 
-firsts_of : (rows : List (CallEdge (List ℕ) (List ℕ))) → AllByRecursion (HasItsFirst (flat_map parts_of rows)) (flat_map parts_of rows)
+firsts_of : (rows : List (ArcRow (List ℕ) (List ℕ))) → AllByRecursion (HasItsFirst (flat_map parts_of rows)) (flat_map parts_of rows)
 firsts_of [] = tt
 firsts_of (r ∷ rows) =
     let later : List CallPart = flat_map parts_of rows in
@@ -134,7 +134,7 @@ firsts_of (r ∷ rows) =
     (all_weaker (HasItsFirst (parts_of r)) (HasItsFirst (parts_of r ++ later)) (parts_of r) (λ p has passes is. any_earlier passes (parts_of r) later (has passes is)) (row_has_first r))
     (all_weaker (HasItsFirst later) (HasItsFirst (parts_of r ++ later)) later (λ p has passes is. any_later passes (parts_of r) later (has passes is)) (firsts_of rows))
 
-above_of : (rows : List (CallEdge (List ℕ) (List ℕ))) → AllByRecursion (λ (p : CallPart). (p.part ≡ 0) ⊎ (0 < p.sum)) (flat_map parts_of rows)
+above_of : (rows : List (ArcRow (List ℕ) (List ℕ))) → AllByRecursion (λ (p : CallPart). (p.part ≡ 0) ⊎ (0 < p.sum)) (flat_map parts_of rows)
 above_of [] = tt
 above_of (r ∷ rows) =
     all-append (λ (p : CallPart). (p.part ≡ 0) ⊎ (0 < p.sum)) (parts_of r) (flat_map parts_of rows)

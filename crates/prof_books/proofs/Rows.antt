@@ -11,9 +11,9 @@ use Rattle.cost_rows.specs.Walks.{cell_named, named_cells, edge_named, named_cal
 use Rattle.cost_rows.specs.declared.places.CellPlace.{CellPlace}
 use Rattle.cost_rows.specs.declared.places.Call.{Call}
 use Rattle.cost_rows.specs.Calls.{Calls}
-use Rattle.cost_rows.specs.declared.rows.Cell.{Cell}
+use Rattle.cost_rows.specs.declared.rows.CellRow.{CellRow}
 use Rattle.cost_rows.proofs.AboveLemmas.{all-above, map-above}
-use Rattle.plain_tables.specs.Tables.{NameRow, CellRow, CallRow, StackRow}
+use Rattle.plain_tables.specs.Tables.{NameRow, StoredCell, StoredCall, StoredStack}
 use Rattle.plain_tables.specs.Files.{number_in}
 use Rattle.prof_books.specs.Book.{name_of, cell_held, part_held, CallPart, part_of, parts_from, parts_of, stack_held, IsHeld, CellIsNamed, CallIsNamed}
 use Rattle.prof_books.specs.Files.{numbered, cell_row_of, cell_rows_at, cell_rows, call_row_of, call_rows_from, call_rows_at, call_rows, stack_rows}
@@ -46,7 +46,7 @@ module _ (known : List NameRow) (up : Rising known) where
 
     one_cell : (p : CellPlace) (event cost : ℕ) → CellHeld names p → cell_held known (cell_row_of run numbers p event cost) ≡ cell_named names (numbered_cell p event cost)
     one_cell p event cost h =
-        let P : List ℕ → List ℕ → List ℕ → Cell (List ℕ) = λ a b d. record { object = a; file = b; function = d; line = p.place.line; thread = p.thread; event = event; cost = cost } in
+        let P : List ℕ → List ℕ → List ℕ → CellRow (List ℕ) = λ a b d. record { object = a; file = b; function = d; line = p.place.line; thread = p.thread; event = event; cost = cost } in
         let e : P (name_of known (numbered numbers p.place.object)) (name_of known (numbered numbers p.place.file)) (name_of known (numbered numbers p.place.function)) ≡ P (name_at names p.place.object) (name_at names p.place.file) (name_at names p.place.function) =
         ap (λ a. P a (name_of known (numbered numbers p.place.file)) (name_of known (numbered numbers p.place.function))) (through names all p.place.object h.0)
         ∙ ap (λ b. P (name_at names p.place.object) b (name_of known (numbered numbers p.place.function))) (through names all p.place.file h.1) ∙ ap (P (name_at names p.place.object) (name_at names p.place.file)) (through names all p.place.function h.2) in
@@ -54,7 +54,7 @@ module _ (known : List NameRow) (up : Rising known) where
 
     cells_at : (p : CellPlace) (costs : List ℕ) → CellHeld names p → map (cell_held known) (cell_rows_at run numbers p 0 costs) ≡ map (cell_named names) (numbered_at p 0 costs)
     cells_at p costs h =
-        let named : ℕ → ℕ → Cell (List ℕ) = λ event cost. cell_named names (numbered_cell p event cost) in
+        let named : ℕ → ℕ → CellRow (List ℕ) = λ event cost. cell_named names (numbered_cell p event cost) in
         map-above (cell_held known) (cell_row_of run numbers p) named (λ event cost. one_cell p event cost h) 0 costs
         ∙ sym (map-above (cell_named names) (numbered_cell p) named (λ event cost. refl) 0 costs)
 
@@ -120,20 +120,20 @@ stacks_are run (e ∷ stacks) = go (nat_lt 0 e.1) (stacks_are run stacks)
 
 -- ---- each of these rows is of the run
 
-pub cells_of_run : (run : ℕ) (known_as : List ℕ) (cells : List (CellPlace × List ℕ)) → AllByRecursion (λ (c : CellRow). c.run ≡ run) (cell_rows run known_as cells)
+pub cells_of_run : (run : ℕ) (known_as : List ℕ) (cells : List (CellPlace × List ℕ)) → AllByRecursion (λ (c : StoredCell). c.run ≡ run) (cell_rows run known_as cells)
 cells_of_run run known_as [] = tt
-cells_of_run run known_as (e ∷ cells) = all-append (λ (c : CellRow). c.run ≡ run) (cell_rows_at run known_as e.0 0 e.1) (cell_rows run known_as cells) (all-above (λ (c : CellRow). c.run ≡ run) (cell_row_of run known_as e.0) (λ event cost above. refl) 0 e.1) (cells_of_run run known_as cells)
+cells_of_run run known_as (e ∷ cells) = all-append (λ (c : StoredCell). c.run ≡ run) (cell_rows_at run known_as e.0 0 e.1) (cell_rows run known_as cells) (all-above (λ (c : StoredCell). c.run ≡ run) (cell_row_of run known_as e.0) (λ event cost above. refl) 0 e.1) (cells_of_run run known_as cells)
 
-pub calls_of_run : (run : ℕ) (known_as : List ℕ) (calls : List (Call × Calls)) → AllByRecursion (λ (a : CallRow). a.run ≡ run) (call_rows run known_as calls)
+pub calls_of_run : (run : ℕ) (known_as : List ℕ) (calls : List (Call × Calls)) → AllByRecursion (λ (a : StoredCall). a.run ≡ run) (call_rows run known_as calls)
 calls_of_run run known_as [] = tt
 calls_of_run run known_as (e ∷ calls) =
-    all-append (λ (a : CallRow). a.run ≡ run) (call_rows_at run known_as e.0 e.1) (call_rows run known_as calls) (refl, all-above (λ (a : CallRow). a.run ≡ run) (call_row_of run known_as e.0) (λ part sum above. refl) 1 e.1.costs) (calls_of_run run known_as calls)
+    all-append (λ (a : StoredCall). a.run ≡ run) (call_rows_at run known_as e.0 e.1) (call_rows run known_as calls) (refl, all-above (λ (a : StoredCall). a.run ≡ run) (call_row_of run known_as e.0) (λ part sum above. refl) 1 e.1.costs) (calls_of_run run known_as calls)
 
-pub stacks_of_run : (run : ℕ) (stacks : List (List ℕ × ℕ)) → AllByRecursion (λ (s : StackRow). s.run ≡ run) (stack_rows run stacks)
+pub stacks_of_run : (run : ℕ) (stacks : List (List ℕ × ℕ)) → AllByRecursion (λ (s : StoredStack). s.run ≡ run) (stack_rows run stacks)
 stacks_of_run run [] = tt
 stacks_of_run run (e ∷ stacks) = go (nat_lt 0 e.1) (stacks_of_run run stacks)
   where
-    go : (b : Bool) → AllByRecursion (λ (s : StackRow). s.run ≡ run) (stack_rows run stacks)
-        → AllByRecursion (λ (s : StackRow). s.run ≡ run) (if b then record { run = run; frames = e.0; count = e.1 } ∷ stack_rows run stacks else stack_rows run stacks)
+    go : (b : Bool) → AllByRecursion (λ (s : StoredStack). s.run ≡ run) (stack_rows run stacks)
+        → AllByRecursion (λ (s : StoredStack). s.run ≡ run) (if b then record { run = run; frames = e.0; count = e.1 } ∷ stack_rows run stacks else stack_rows run stacks)
     go true rest = (refl, rest)
     go false rest = rest

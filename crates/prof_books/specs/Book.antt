@@ -5,10 +5,10 @@ use Rattle.std.specs.Bool.{IsTrue}
 use Rattle.cost_rows.specs.Above.{rows_above}
 use Rattle.cost_rows.specs.Content.{Content}
 use Rattle.cost_rows.specs.Walks.{named_cells, named_calls, counted_stacks}
-use Rattle.cost_rows.specs.declared.rows.Cell.{Cell}
-use Rattle.cost_rows.specs.declared.rows.CallEdge.{CallEdge}
-use Rattle.cost_rows.specs.declared.rows.StackCount.{StackCount}
-use Rattle.plain_tables.specs.Tables.{Tables, RunRow, EventRow, DerivedRow, CoefRow, NameRow, CellRow, CallRow, StackRow, GroupRow, MemberRow}
+use Rattle.cost_rows.specs.declared.rows.CellRow.{CellRow}
+use Rattle.cost_rows.specs.declared.rows.ArcRow.{ArcRow}
+use Rattle.cost_rows.specs.declared.rows.StackRow.{StackRow}
+use Rattle.plain_tables.specs.Tables.{Tables, RunRow, EventRow, DerivedRow, CoefRow, NameRow, StoredCell, StoredCall, StoredStack, GroupRow, MemberRow}
 use Rattle.plain_tables.specs.RunRows.{cells_in, calls_in, stacks_in}
 use Rattle.plain_tables.specs.Changes.{has_baseline, unbased}
 
@@ -23,7 +23,7 @@ name_of (line ∷ lines) n = if line.number == n then line.name else name_of lin
 
 -- ---- cells
 
-abbrev pub cell_held : List NameRow → CellRow → Cell (List ℕ)
+abbrev pub cell_held : List NameRow → StoredCell → CellRow (List ℕ)
 cell_held names c = record {
   object = name_of names c.object;
   file = name_of names c.file;
@@ -35,7 +35,7 @@ cell_held names c = record {
 }
 
 -- the sums of a run's self costs
-abbrev pub cells_held : ℕ → Tables → List (Cell (List ℕ))
+abbrev pub cells_held : ℕ → Tables → List (CellRow (List ℕ))
 cells_held run t = map (cell_held t.names) (cells_in run t)
 
 -- ---- calls
@@ -52,7 +52,7 @@ pub record CallPart : Type 0 where
   pub part : ℕ
   pub sum : ℕ
 
-abbrev pub part_held : List NameRow → CallRow → CallPart
+abbrev pub part_held : List NameRow → StoredCall → CallPart
 part_held names a = record {
   object = name_of names a.object;
   file = name_of names a.file;
@@ -70,7 +70,7 @@ abbrev pub parts_held : ℕ → Tables → List CallPart
 parts_held run t = map (part_held t.names) (calls_in run t)
 
 -- a part of a row of calls
-abbrev pub part_of : CallEdge (List ℕ) (List ℕ) → ℕ → ℕ → CallPart
+abbrev pub part_of : ArcRow (List ℕ) (List ℕ) → ℕ → ℕ → CallPart
 part_of r part sum = record {
   object = r.object;
   file = r.file;
@@ -84,20 +84,20 @@ part_of r part sum = record {
 }
 
 -- the costs above 0, from a part on
-abbrev pub parts_from : CallEdge (List ℕ) (List ℕ) → ℕ → List ℕ → List CallPart
+abbrev pub parts_from : ArcRow (List ℕ) (List ℕ) → ℕ → List ℕ → List CallPart
 parts_from r part costs = rows_above (part_of r) part costs
 
 -- what a row of calls has: their number, always, and then their costs
-abbrev pub parts_of : CallEdge (List ℕ) (List ℕ) → List CallPart
+abbrev pub parts_of : ArcRow (List ℕ) (List ℕ) → List CallPart
 parts_of r = part_of r 0 r.count ∷ parts_from r 1 r.costs
 
 -- ---- stacks
 
-abbrev pub stack_held : StackRow → StackCount (List ℕ)
+abbrev pub stack_held : StoredStack → StackRow (List ℕ)
 stack_held s = record { stack = s.frames; count = s.count }
 
 -- the counts of a run's stacks
-abbrev pub stacks_held : ℕ → Tables → List (StackCount (List ℕ))
+abbrev pub stacks_held : ℕ → Tables → List (StackRow (List ℕ))
 stacks_held run t = map stack_held (stacks_in run t)
 
 -- ---- the book
@@ -108,9 +108,9 @@ pub record RunBook : Type 0 where
   pub events : List EventRow
   pub derived : List DerivedRow
   pub coefs : List CoefRow
-  pub cells : List (Cell (List ℕ))
+  pub cells : List (CellRow (List ℕ))
   pub parts : List CallPart
-  pub stacks : List (StackCount (List ℕ))
+  pub stacks : List (StackRow (List ℕ))
 
 pub record Book : Type 0 where
   pub next : ℕ
@@ -137,10 +137,10 @@ book_of t = record { next = t.next; runs = map (run_held t) t.runs; groups = t.g
 abbrev pub IsHeld : List NameRow → ℕ → Type 0
 IsHeld names n = IsTrue (list_any (λ (line : NameRow). line.number == n) names)
 
-abbrev pub CellIsNamed : List NameRow → CellRow → Type 0
+abbrev pub CellIsNamed : List NameRow → StoredCell → Type 0
 CellIsNamed names c = IsHeld names c.object × IsHeld names c.file × IsHeld names c.function
 
-abbrev pub CallIsNamed : List NameRow → CallRow → Type 0
+abbrev pub CallIsNamed : List NameRow → StoredCall → Type 0
 CallIsNamed names a = IsHeld names a.object × IsHeld names a.file × IsHeld names a.function × IsHeld names a.called_object × IsHeld names a.called_file × IsHeld names a.called_function
 
 -- in tables that represent a book

@@ -5,7 +5,7 @@ use Rattle.cost_rows.specs.declared.places.Call.{Call}
 use Rattle.cost_rows.specs.Calls.{Calls}
 use Rattle.cost_rows.specs.Above.{rows_above}
 use Rattle.cost_rows.specs.Content.{Content}
-use Rattle.plain_tables.specs.Tables.{Tables, RunRow, EventRow, DerivedRow, CoefRow, CellRow, CallRow, StackRow}
+use Rattle.plain_tables.specs.Tables.{Tables, RunRow, EventRow, DerivedRow, CoefRow, StoredCell, StoredCall, StoredStack}
 use Rattle.plain_tables.specs.Changes.{with_next, with_run, with_events, with_derived, with_coefs, with_cells, with_calls, with_stacks}
 use Rattle.plain_tables.specs.Files.{all_named, numbers_in}
 
@@ -13,7 +13,7 @@ use Rattle.plain_tables.specs.Files.{all_named, numbers_in}
 abbrev pub numbered : List ℕ → ℕ → ℕ
 numbered numbers name = slice_index_or numbers name 0
 
-abbrev pub cell_row_of : ℕ → List ℕ → CellPlace → ℕ → ℕ → CellRow
+abbrev pub cell_row_of : ℕ → List ℕ → CellPlace → ℕ → ℕ → StoredCell
 cell_row_of run numbers p event cost = record {
   run = run;
   object = numbered numbers p.place.object;
@@ -26,14 +26,14 @@ cell_row_of run numbers p event cost = record {
 }
 
 -- the sums above 0 at a place, from an event on
-abbrev pub cell_rows_at : ℕ → List ℕ → CellPlace → ℕ → List ℕ → List CellRow
+abbrev pub cell_rows_at : ℕ → List ℕ → CellPlace → ℕ → List ℕ → List StoredCell
 cell_rows_at run numbers p event costs = rows_above (cell_row_of run numbers p) event costs
 
-abbrev pub cell_rows : ℕ → List ℕ → List (CellPlace × List ℕ) → List CellRow
+abbrev pub cell_rows : ℕ → List ℕ → List (CellPlace × List ℕ) → List StoredCell
 cell_rows run numbers [] = []
 cell_rows run numbers (e ∷ cells) = cell_rows_at run numbers e.0 0 e.1 ++ cell_rows run numbers cells
 
-abbrev pub call_row_of : ℕ → List ℕ → Call → ℕ → ℕ → CallRow
+abbrev pub call_row_of : ℕ → List ℕ → Call → ℕ → ℕ → StoredCall
 call_row_of run numbers c part sum = record {
   run = run;
   object = numbered numbers c.place.object;
@@ -48,19 +48,19 @@ call_row_of run numbers c part sum = record {
 }
 
 -- the costs above 0 of calls, from a part on
-abbrev pub call_rows_from : ℕ → List ℕ → Call → ℕ → List ℕ → List CallRow
+abbrev pub call_rows_from : ℕ → List ℕ → Call → ℕ → List ℕ → List StoredCall
 call_rows_from run numbers c part costs = rows_above (call_row_of run numbers c) part costs
 
 -- their number, always, and then their costs
-abbrev pub call_rows_at : ℕ → List ℕ → Call → Calls → List CallRow
+abbrev pub call_rows_at : ℕ → List ℕ → Call → Calls → List StoredCall
 call_rows_at run numbers c calls = call_row_of run numbers c 0 calls.count ∷ call_rows_from run numbers c 1 calls.costs
 
-abbrev pub call_rows : ℕ → List ℕ → List (Call × Calls) → List CallRow
+abbrev pub call_rows : ℕ → List ℕ → List (Call × Calls) → List StoredCall
 call_rows run numbers [] = []
 call_rows run numbers (e ∷ calls) = call_rows_at run numbers e.0 e.1 ++ call_rows run numbers calls
 
 -- the counts of stacks above 0
-abbrev pub stack_rows : ℕ → List (List ℕ × ℕ) → List StackRow
+abbrev pub stack_rows : ℕ → List (List ℕ × ℕ) → List StoredStack
 stack_rows run [] = []
 stack_rows run (e ∷ stacks) = if nat_lt 0 e.1 then record { run = run; frames = e.0; count = e.1 } ∷ stack_rows run stacks else stack_rows run stacks
 

@@ -3,7 +3,7 @@ use Rattle.std.specs.Prelude.{◌≡◌, ◌⊎◌, ℕ, suc, ◌+◌, ◌<◌, 
 use Rattle.std.specs.List.{AllByRecursion}
 use Rattle.cost_rows.specs.Sums.{Spot}
 use Rattle.cost_rows.specs.WalkSums.{calls_cost, calls_count, has_calls}
-use Rattle.cost_rows.specs.declared.rows.CallEdge.{CallEdge}
+use Rattle.cost_rows.specs.declared.rows.ArcRow.{ArcRow}
 use Rattle.prof_books.specs.Book.{CallPart, parts_of}
 
 -- the place of calls, and whom they called; of their threads nothing is kept
@@ -25,7 +25,7 @@ has_part passes (p ∷ parts) = (passes (caller_of_part p) (callee_of_part p) &&
 
 -- these are the parts of whole rows of calls: each has its number, and then the costs above 0
 abbrev pub AreOfRows : List CallPart → Type 0
-AreOfRows parts = (rows : List (CallEdge (List ℕ) (List ℕ))) × (parts ≡ flat_map parts_of rows)
+AreOfRows parts = (rows : List (ArcRow (List ℕ) (List ℕ))) × (parts ≡ flat_map parts_of rows)
 
 -- where a part passes, a part 0 does
 abbrev pub HasItsFirst : List CallPart → CallPart → Type 0
@@ -37,7 +37,7 @@ pub record AreWhole (parts : List CallPart) : Type 0 where
   pub above : AllByRecursion (λ (p : CallPart). (p.part ≡ 0) ⊎ (0 < p.sum)) parts
 
 -- the parts of rows of calls sum to what the rows sum to, for every test of calls
-pub record PartsSum (rows : List (CallEdge (List ℕ) (List ℕ))) : Type 0 where
+pub record PartsSum (rows : List (ArcRow (List ℕ) (List ℕ))) : Type 0 where
   pub counts : (passes : Spot → Spot → Bool) → calls_count passes rows ≡ parts_sum passes 0 (flat_map parts_of rows)
   pub costs : (passes : Spot → Spot → Bool) (k : ℕ) → calls_cost passes k rows ≡ parts_sum passes (suc k) (flat_map parts_of rows)
   pub called : (passes : Spot → Spot → Bool) → has_calls passes rows ≡ has_part passes (flat_map parts_of rows)

@@ -3,7 +3,7 @@
 ghost use Rattle.std.specs.Prelude.{◌≡◌, ℕ, List};
 ghost use Rattle.cg_formulas.specs.declared.heads.FileHead.{FileHead};
 ghost use Rattle.cost_rows.specs.Content.{Content};
-ghost use Rattle.cost_rows.specs.declared.rows.CallEdge.{CallEdge};
+ghost use Rattle.cost_rows.specs.declared.rows.ArcRow.{ArcRow};
 ghost use Rattle.plain_tables.specs.Changes.{without_run};
 ghost use Rattle.plain_tables.specs.Tables.{Tables, GroupRow, MemberRow, new_tables};
 ghost use Rattle.prof_books.specs.Book.{CallPart, IsNamed, book_of, new_book, regrouped, regrouped_book, without_run_book};
@@ -44,5 +44,5 @@ pub fn groups_leave_the_runs()
 /// without its part 0, and none but a part 0 is 0.
 pub fn parts_sum_to_the_calls()
     ensures whole { (parts : List CallPart) → AreOfRows parts → AreWhole parts }
-    ensures sums { (rows : List (CallEdge (List ℕ) (List ℕ))) → PartsSum rows }
+    ensures sums { (rows : List (ArcRow (List ℕ) (List ℕ))) → PartsSum rows }
 {}

@@ -17,7 +17,7 @@ use Rattle.sqlite_schema.specs.declared.schema.Kind.TheVariants as kind
 use Rattle.sqlite_schema.specs.declared.schema.Table.{Table}
 use Rattle.sqlite_keyed.proofs.ListLemmas.{map-map}
 use Rattle.store_schema.specs.Schema.{column_of, schema_two, meta_at, run_at, run_event_at, derived_at, coef_at, name_at, thread_cell_at, arc_at, stack_at, grp_at, member_at}
-use Rattle.plain_tables.specs.Tables.{Tables, RunRow, EventRow, DerivedRow, CoefRow, NameRow, CellRow, CallRow, StackRow, GroupRow, MemberRow}
+use Rattle.plain_tables.specs.Tables.{Tables, RunRow, EventRow, DerivedRow, CoefRow, NameRow, StoredCell, StoredCall, StoredStack, GroupRow, MemberRow}
 use Rattle.store_schema.specs.Tables.{meta_columns, run_columns, event_columns, derived_columns, coef_columns, name_columns, cell_columns, arc_columns, stack_columns, group_columns, member_columns, number, number_or_null, text_or_null}
 use Rattle.prof_store.specs.Readings.{as_read, row_read, AreShaped, HasMeta, RowsSay}
 
@@ -245,7 +245,7 @@ module _ (far : ℕ → ℕ) where
       let cs = coef_at.columns in
       ap₂ {A = Value} ◌∷◌ (int_at far key cs r are there 0 (codes "run") refl refl) (ap₂ {A = Value} ◌∷◌ (int_at far key cs r are there 1 (codes "pos") refl refl) (ap₂ {A = Value} ◌∷◌ (int_at far key cs r are there 2 (codes "event") refl refl) (ap₂ {A = Value} ◌∷◌ (int_at far key cs r are there 3 (codes "n") refl refl) refl)))
 
-  cell_of : Row → CellRow
+  cell_of : Row → StoredCell
   cell_of r = record { run = value_of far (column r 1); object = value_of far (column r 3); file = value_of far (column r 4); function = value_of far (column r 5); line = value_of far (column r 6); thread = value_of far (column r 2); event = value_of far (column r 7); cost = value_of far (column r 8) }
 
   cell_read : (r : Row) → is_int (rowid r) ≡ true → are_typed thread_cell_at.key 0 thread_cell_at.columns (drop 1 r) ≡ true → are_present thread_cell_at.key 0 thread_cell_at.columns r ≡ true → drop 1 (row_read far thread_cell_at r) ≡ cell_columns (cell_of r)
@@ -255,7 +255,7 @@ module _ (far : ℕ → ℕ) where
       let cs = thread_cell_at.columns in
       ap₂ {A = Value} ◌∷◌ (int_at far key cs r are there 0 (codes "run") refl refl) (ap₂ {A = Value} ◌∷◌ (int_at far key cs r are there 1 (codes "thread") refl refl) (ap₂ {A = Value} ◌∷◌ (int_at far key cs r are there 2 (codes "ob") refl refl) (ap₂ {A = Value} ◌∷◌ (int_at far key cs r are there 3 (codes "fl") refl refl) (ap₂ {A = Value} ◌∷◌ (int_at far key cs r are there 4 (codes "fn") refl refl) (ap₂ {A = Value} ◌∷◌ (int_at far key cs r are there 5 (codes "line") refl refl) (ap₂ {A = Value} ◌∷◌ (int_at far key cs r are there 6 (codes "event") refl refl) (ap₂ {A = Value} ◌∷◌ (int_at far key cs r are there 7 (codes "cost") refl refl) refl)))))))
 
-  call_of : Row → CallRow
+  call_of : Row → StoredCall
   call_of r = record { run = value_of far (column r 1); object = value_of far (column r 2); file = value_of far (column r 3); function = value_of far (column r 4); line = value_of far (column r 5); called_object = value_of far (column r 6); called_file = value_of far (column r 7); called_function = value_of far (column r 8); part = value_of far (column r 9); sum = value_of far (column r 10) }
 
   call_read : (r : Row) → is_int (rowid r) ≡ true → are_typed arc_at.key 0 arc_at.columns (drop 1 r) ≡ true → are_present arc_at.key 0 arc_at.columns r ≡ true → drop 1 (row_read far arc_at r) ≡ arc_columns (call_of r)
@@ -265,7 +265,7 @@ module _ (far : ℕ → ℕ) where
       let cs = arc_at.columns in
       ap₂ {A = Value} ◌∷◌ (int_at far key cs r are there 0 (codes "run") refl refl) (ap₂ {A = Value} ◌∷◌ (int_at far key cs r are there 1 (codes "ob") refl refl) (ap₂ {A = Value} ◌∷◌ (int_at far key cs r are there 2 (codes "fl") refl refl) (ap₂ {A = Value} ◌∷◌ (int_at far key cs r are there 3 (codes "fn") refl refl) (ap₂ {A = Value} ◌∷◌ (int_at far key cs r are there 4 (codes "line") refl refl) (ap₂ {A = Value} ◌∷◌ (int_at far key cs r are there 5 (codes "cob") refl refl) (ap₂ {A = Value} ◌∷◌ (int_at far key cs r are there 6 (codes "cfl") refl refl) (ap₂ {A = Value} ◌∷◌ (int_at far key cs r are there 7 (codes "cfn") refl refl) (ap₂ {A = Value} ◌∷◌ (int_at far key cs r are there 8 (codes "part") refl refl) (ap₂ {A = Value} ◌∷◌ (int_at far key cs r are there 9 (codes "n") refl refl) refl)))))))))
 
-  stack_of : Row → StackRow
+  stack_of : Row → StoredStack
   stack_of r = record { run = value_of far (column r 1); frames = bytes (column r 2); count = value_of far (column r 3) }
 
   stack_read : (r : Row) → is_int (rowid r) ≡ true → are_typed stack_at.key 0 stack_at.columns (drop 1 r) ≡ true → are_present stack_at.key 0 stack_at.columns r ≡ true → drop 1 (row_read far stack_at r) ≡ stack_columns (stack_of r)

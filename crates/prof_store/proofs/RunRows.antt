@@ -8,7 +8,7 @@ use Rattle.sql_tables.specs.Walks.{Asked, HasReadAll, is_asked, said}
 use Rattle.plain_tables.specs.RunRows.{cells_in, calls_in, stacks_in}
 use Rattle.store_schema.specs.Schema.{thread_cell_at, arc_at, stack_at}
 use Rattle.store_schema.specs.Seen.{is_at}
-use Rattle.plain_tables.specs.Tables.{Tables, CellRow, CallRow, StackRow}
+use Rattle.plain_tables.specs.Tables.{Tables, StoredCell, StoredCall, StoredStack}
 use Rattle.store_schema.specs.Tables.{cell_columns, arc_columns, stack_columns, number}
 use Rattle.store_schema.specs.WalkTexts.{cells_of, calls_of, stacks_of}
 use Rattle.store_schema.proofs.RunRows.{one_cell, one_call, one_stack}
@@ -33,26 +33,26 @@ module _ (t : Tables) (db : Trees) (was : IsSaidBy t db) where
       ap (λ m. number m ∷ values_read was.far (map (column r) places)) named ∙ whole r x is) rows xs zip in
       map_injective columns one (filter (λ x. eqb (run x) n) xs) given (sym lines ∙ ap (map (values_read was.far)) all ∙ shown_read was.far columns plain given)
 
-  cells_taken : (run : ℕ) → run < 2 ^ 64 → (given : List CellRow) → HasReadAll (cells_of run) (db thread_cell_at.tree) (map cell_columns given) → cells_in run t ≡ given
+  cells_taken : (run : ℕ) → run < 2 ^ 64 → (given : List StoredCell) → HasReadAll (cells_of run) (db thread_cell_at.tree) (map cell_columns given) → cells_in run t ≡ given
   cells_taken run low =
       all_taken (SaysBehind was.far thread_cell_at cell_columns) cell_columns one_cell (λ c. c.run) (λ r x is. ap (λ l. column l 1) is.1) (λ c. refl) (2 ∷ 3 ∷ 4 ∷ 5 ∷ 6 ∷ 7 ∷ 8 ∷ []) (λ r x is. ap (λ l. number x.run ∷ drop 2 l) is.1) run low (db 23) t.cells (cells_said t db was)
 
-  calls_taken : (run : ℕ) → run < 2 ^ 64 → (given : List CallRow) → HasReadAll (calls_of run) (db arc_at.tree) (map arc_columns given) → calls_in run t ≡ given
+  calls_taken : (run : ℕ) → run < 2 ^ 64 → (given : List StoredCall) → HasReadAll (calls_of run) (db arc_at.tree) (map arc_columns given) → calls_in run t ≡ given
   calls_taken run low =
       all_taken (SaysBehind was.far arc_at arc_columns) arc_columns one_call (λ a. a.run) (λ r x is. ap (λ l. column l 1) is.1) (λ a. refl) (2 ∷ 3 ∷ 4 ∷ 5 ∷ 6 ∷ 7 ∷ 8 ∷ 9 ∷ 10 ∷ []) (λ r x is. ap (λ l. number x.run ∷ drop 2 l) is.1) run low (db 15) t.calls (calls_said t db was)
 
-  stacks_taken : (run : ℕ) → run < 2 ^ 64 → (given : List StackRow) → HasReadAll (stacks_of run) (db stack_at.tree) (map stack_columns given) → stacks_in run t ≡ given
+  stacks_taken : (run : ℕ) → run < 2 ^ 64 → (given : List StoredStack) → HasReadAll (stacks_of run) (db stack_at.tree) (map stack_columns given) → stacks_in run t ≡ given
   stacks_taken run low =
       all_taken (SaysBehind was.far stack_at stack_columns) stack_columns one_stack (λ s. s.run) (λ r x is. ap (λ l. column l 1) is.1) (λ s. refl) (2 ∷ 3 ∷ []) (λ r x is. ap (λ l. number x.run ∷ drop 2 l) is.1) run low (db 17) t.stacks (stacks_said t db was)
 
-pub cells_all : (t : Tables) (db : Trees) → RowsSay t db → (run : ℕ) → run < 2 ^ 64 → (given : List CellRow) → HasReadAll (cells_of run) (db thread_cell_at.tree) (map cell_columns given) → cells_in run t ≡ given
+pub cells_all : (t : Tables) (db : Trees) → RowsSay t db → (run : ℕ) → run < 2 ^ 64 → (given : List StoredCell) → HasReadAll (cells_of run) (db thread_cell_at.tree) (map cell_columns given) → cells_in run t ≡ given
 unfolding RowsSay
 cells_all t db was = cells_taken t db was
 
-pub calls_all : (t : Tables) (db : Trees) → RowsSay t db → (run : ℕ) → run < 2 ^ 64 → (given : List CallRow) → HasReadAll (calls_of run) (db arc_at.tree) (map arc_columns given) → calls_in run t ≡ given
+pub calls_all : (t : Tables) (db : Trees) → RowsSay t db → (run : ℕ) → run < 2 ^ 64 → (given : List StoredCall) → HasReadAll (calls_of run) (db arc_at.tree) (map arc_columns given) → calls_in run t ≡ given
 unfolding RowsSay
 calls_all t db was = calls_taken t db was
 
-pub stacks_all : (t : Tables) (db : Trees) → RowsSay t db → (run : ℕ) → run < 2 ^ 64 → (given : List StackRow) → HasReadAll (stacks_of run) (db stack_at.tree) (map stack_columns given) → stacks_in run t ≡ given
+pub stacks_all : (t : Tables) (db : Trees) → RowsSay t db → (run : ℕ) → run < 2 ^ 64 → (given : List StoredStack) → HasReadAll (stacks_of run) (db stack_at.tree) (map stack_columns given) → stacks_in run t ≡ given
 unfolding RowsSay
 stacks_all t db was = stacks_taken t db was

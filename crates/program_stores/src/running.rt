@@ -4,7 +4,7 @@ ghost use Rattle.std.specs.Prelude.{◌≤◌};
 use crate::beside::{Beside, look_beside, work_beside};
 use crate::reading::{StoreInPages, pages_at, pages_to_change_at};
 use anyhow::Result;
-use command_line::{Plan, PlanError, plan};
+use command_line::{Plan, PlanEnd, plan};
 use file_reading::total_file;
 use http_service::{Service, serve_over};
 use prof_store::OpenError;
@@ -177,14 +177,14 @@ fn run_plan<'a>(rt: &'a HostRuntime, plan: Plan<'a>) -> io::Result<ExitCode> {
 
 /// Prints why words are no plan. No guarantee: of what is printed the checker knows nothing; `plan` says which end comes of
 /// which words.
-fn print_unplanned(rt: &HostRuntime, end: PlanError) -> io::Result<ExitCode> {
+fn print_unplanned(rt: &HostRuntime, end: PlanEnd) -> io::Result<ExitCode> {
     match end {
-        PlanError::Memory => return print_refused(rt, "out of memory"),
-        PlanError::RunAndGroup => eprintln!(rt; "usage: --run and --group exclude each other")?,
-        PlanError::LessRunAndLessGroup => {
+        PlanEnd::Memory => return print_refused(rt, "out of memory"),
+        PlanEnd::RunAndGroup => eprintln!(rt; "usage: --run and --group exclude each other")?,
+        PlanEnd::LessRunAndLessGroup => {
             eprintln!(rt; "usage: --less-run and --less-group exclude each other")?
         }
-        PlanError::Clap(error) => {
+        PlanEnd::Clap(error) => {
             error.print(rt)?;
             return Ok(ExitCode::from(error.exit_code() as u8));
         }

@@ -8,7 +8,7 @@ use Rattle.cg_text.specs.Lines.{lines_of, numbered}
 use Rattle.cost_rows.specs.Merging.{sum_where}
 use Rattle.cost_rows.specs.Sums.{Spot}
 use Rattle.cost_rows.specs.Walks.{HaveCosts}
-use Rattle.cost_rows.specs.declared.rows.Cell.{Cell}
+use Rattle.cost_rows.specs.declared.rows.CellRow.{CellRow}
 use Rattle.report_texts.specs.Costs.{EventCells, EventRecords, all_costs}
 use Rattle.byte_io.specs.Escapes.{escaped}
 use Rattle.profile_records.specs.Records.{Record, Own, Called}
@@ -117,7 +117,7 @@ abbrev pub no_lines : List ℕ → FileCosts
 no_lines file = record { file = file; known = false; costs = [] }
 
 -- a row of another file says nothing; one of cost 0 says that the file is known
-abbrev pub with_line : FileCosts → Cell (List ℕ) → FileCosts
+abbrev pub with_line : FileCosts → CellRow (List ℕ) → FileCosts
 with_line held row =
     if bytes_eq row.file held.file then record { file = held.file; known = true; costs = with_amount nat_cmp held.costs row.line row.cost }
     else held

@@ -9,7 +9,7 @@ use Rattle.cost_rows.specs.Keys.{named_cmp}
 use Rattle.cost_rows.specs.Sums.{Spot, call_sum, count_sum, has_call}
 use Rattle.cost_rows.specs.WalkSums.{calls_cost, calls_count, has_calls}
 use Rattle.cost_rows.specs.declared.keys.Key.TheVariants.{Function}
-use Rattle.cost_rows.specs.declared.rows.CallEdge.{CallEdge}
+use Rattle.cost_rows.specs.declared.rows.ArcRow.{ArcRow}
 use Rattle.profile_records.specs.Records.{Record, Own, Called}
 use Rattle.byte_io.specs.Escapes.{escaped}
 use Rattle.report_texts.specs.Costs.{EventRecords}
@@ -109,7 +109,7 @@ call_report_text event r = call_head r.side event r.function ++ (call_line r.tot
 -- ---- calls that are handed in row by row
 
 -- a row of calls, which cost what they do in one event
-abbrev pub calls_of_row : CallEdge (Bor (List ℕ)) ℕ → Calls
+abbrev pub calls_of_row : ArcRow (Bor (List ℕ)) ℕ → Calls
 calls_of_row r = record {
   caller = function_spot r.object.now r.function.now;
   callee = function_spot r.called_object.now r.called_function.now;
@@ -124,10 +124,10 @@ with_calls held c = if is_one_function held.function (asked held.side c) then re
 -- the rows of calls of a run, and how often each of its columns counts in an event
 pub record EventEdges : Type 0 where
   pub coefs : List ℕ
-  pub calls : List (CallEdge (List ℕ) (List ℕ))
+  pub calls : List (ArcRow (List ℕ) (List ℕ))
 
 -- a row of calls as calls of the event
-abbrev pub weighted_calls : List ℕ → CallEdge (List ℕ) (List ℕ) → Calls
+abbrev pub weighted_calls : List ℕ → ArcRow (List ℕ) (List ℕ) → Calls
 weighted_calls coefs r = record {
   caller = function_spot r.object r.function;
   callee = function_spot r.called_object r.called_function;

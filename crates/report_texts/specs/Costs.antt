@@ -5,7 +5,7 @@ use Rattle.cost_rows.specs.KeySums.{rows_of, sums_by}
 use Rattle.cost_rows.specs.Sums.{Spot, spot_of, self_sum}
 use Rattle.cost_rows.specs.WalkSums.{rows_cost}
 use Rattle.cost_rows.specs.declared.keys.Key.{Key}
-use Rattle.cost_rows.specs.declared.rows.Cell.{Cell}
+use Rattle.cost_rows.specs.declared.rows.CellRow.{CellRow}
 use Rattle.profile_records.specs.Records.{Record, Own, Called}
 
 -- the records of a file, and how often each of its columns counts in an event
@@ -33,13 +33,13 @@ costs_by key files = sums_by key (rows_of (all_costs files))
 -- the cells of a run, and how often each of its columns counts in an event
 pub record EventCells : Type 0 where
   pub coefs : List ℕ
-  pub cells : List (Cell (List ℕ))
+  pub cells : List (CellRow (List ℕ))
 
 -- a cell of one column as a row of the event
-abbrev pub weighted : List ℕ → Cell (List ℕ) → Cell (List ℕ)
+abbrev pub weighted : List ℕ → CellRow (List ℕ) → CellRow (List ℕ)
 weighted coefs r = record r { event = 0; cost = slice_index coefs r.event * r.cost }
 
-abbrev pub all_rows : List EventCells → List (Cell (List ℕ))
+abbrev pub all_rows : List EventCells → List (CellRow (List ℕ))
 all_rows [] = []
 all_rows (r ∷ runs) = map (weighted r.coefs) r.cells ++ all_rows runs
 

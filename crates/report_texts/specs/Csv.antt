@@ -8,7 +8,7 @@ use Rattle.cost_rows.specs.Keys.{named_cmp, place_of_row}
 use Rattle.cost_rows.specs.Stacks.{bytes_cmp}
 use Rattle.cost_rows.specs.Sums.{Spot, any_thread, spot_of, self_sum}
 use Rattle.cost_rows.specs.WalkSums.{rows_cost}
-use Rattle.cost_rows.specs.declared.rows.Cell.{Cell}
+use Rattle.cost_rows.specs.declared.rows.CellRow.{CellRow}
 use Rattle.profile_records.specs.Records.{Cost, Record, Own, Called}
 use Rattle.report_texts.specs.Amounts.{amounts_by, with_amount}
 
@@ -67,15 +67,15 @@ csv_text sums = row_text default_writer csv_header ++ csv_rows sums
 -- ---- rows that are added one after another
 
 -- a row's cost is added at its place and its event's name
-abbrev pub with_cell : List (EventSpot × ℕ) → Cell (List ℕ) → List ℕ → List (EventSpot × ℕ)
+abbrev pub with_cell : List (EventSpot × ℕ) → CellRow (List ℕ) → List ℕ → List (EventSpot × ℕ)
 with_cell sums row event = with_amount event_spot_cmp sums (record { spot = any_thread (place_of_row row); event = event }) row.cost
 
-abbrev pub with_cell_of : List (EventSpot × ℕ) → Cell (List ℕ) → Option (List ℕ) → List (EventSpot × ℕ)
+abbrev pub with_cell_of : List (EventSpot × ℕ) → CellRow (List ℕ) → Option (List ℕ) → List (EventSpot × ℕ)
 with_cell_of sums row None = sums
 with_cell_of sums row (Some event) = with_cell sums row event
 
 -- a row of a run with these events; one of none of them adds nothing
-abbrev pub with_cell_in : List (List ℕ) → List (EventSpot × ℕ) → Cell (List ℕ) → List (EventSpot × ℕ)
+abbrev pub with_cell_in : List (List ℕ) → List (EventSpot × ℕ) → CellRow (List ℕ) → List (EventSpot × ℕ)
 with_cell_in events sums row = with_cell_of sums row (slice_get events row.event)
 
 -- ---- from rows
@@ -83,7 +83,7 @@ with_cell_in events sums row = with_cell_of sums row (slice_get events row.event
 -- the events of a run by column, and its cells
 pub record NamedCells : Type 0 where
   pub events : List (List ℕ)
-  pub cells : List (Cell (List ℕ))
+  pub cells : List (CellRow (List ℕ))
 
 -- the cells sum to the self records, for every test of places and each column
 pub record NamesStandFor (f : NamedRecords) (r : NamedCells) : Type 0 where

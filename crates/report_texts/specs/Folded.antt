@@ -2,7 +2,7 @@
 use Rattle.std.specs.Prelude.{ℕ, List, [], ◌∷◌, ◌++◌, fold, flat_map, codes}
 use Rattle.std.specs.Fmt.{decimal}
 use Rattle.cost_rows.specs.Stacks.{bytes_cmp}
-use Rattle.cost_rows.specs.declared.rows.StackCount.{StackCount}
+use Rattle.cost_rows.specs.declared.rows.StackRow.{StackRow}
 use Rattle.profile_records.specs.Stacks.{Seen}
 use Rattle.report_texts.specs.Amounts.{amounts_by, with_amount}
 
@@ -29,8 +29,8 @@ folded_text sums = flat_map stack_line sums
 
 -- ---- rows that are added one after another
 
-abbrev pub with_stack : List (List ℕ × ℕ) → StackCount (List ℕ) → List (List ℕ × ℕ)
+abbrev pub with_stack : List (List ℕ × ℕ) → StackRow (List ℕ) → List (List ℕ × ℕ)
 with_stack sums row = with_amount bytes_cmp sums row.stack row.count
 
-abbrev pub folded_of_rows : List (StackCount (List ℕ)) → List (List ℕ × ℕ)
+abbrev pub folded_of_rows : List (StackRow (List ℕ)) → List (List ℕ × ℕ)
 folded_of_rows rows = fold with_stack [] rows

@@ -10,8 +10,8 @@ use Rattle.cost_rows.specs.StackSums.{frames_sum}
 use Rattle.cost_rows.specs.Sums.{Spot}
 use Rattle.cost_rows.specs.WalkSums.{stacks_count}
 use Rattle.cost_rows.specs.declared.keys.Key.TheVariants.{Function}
-use Rattle.cost_rows.specs.declared.rows.Cell.{Cell}
-use Rattle.cost_rows.specs.declared.rows.StackCount.{StackCount}
+use Rattle.cost_rows.specs.declared.rows.CellRow.{CellRow}
+use Rattle.cost_rows.specs.declared.rows.StackRow.{StackRow}
 use Rattle.profile_records.specs.Frames.{functions_of}
 use Rattle.profile_records.specs.Stacks.{Seen}
 use Rattle.byte_io.specs.Escapes.{escaped}
@@ -80,7 +80,7 @@ abbrev pub by_function : InclusiveCosts → Sums
 by_function held = record { key = Function; sums = held.sums }
 
 -- self costs of a Callgrind file
-abbrev pub with_self : InclusiveCosts → Cell (List ℕ) → InclusiveCosts
+abbrev pub with_self : InclusiveCosts → CellRow (List ℕ) → InclusiveCosts
 with_self held row = record { sums = (with_row (by_function held) row).sums; total = held.total + row.cost }
 
 -- what calls cost
@@ -88,7 +88,7 @@ abbrev pub with_outward : InclusiveCosts → Calls → InclusiveCosts
 with_outward held c = record held { sums = (fold with_row (by_function held) (rows_of (outward_costs (c ∷ [])))).sums }
 
 -- a stack of a folded file
-abbrev pub with_stack : InclusiveCosts → StackCount (List ℕ) → InclusiveCosts
+abbrev pub with_stack : InclusiveCosts → StackRow (List ℕ) → InclusiveCosts
 with_stack held r = record {
   sums = (fold with_row (by_function held) (rows_of (names_costs r.count (functions_in r.stack)))).sums;
   total = held.total + r.count;
@@ -100,9 +100,9 @@ names_in lent = map (λ (name : Bor (List ℕ)). name.now) lent
 
 -- a row that is handed in
 pub data InclusiveRow : Type 0 where
-  OfSelf : Cell (List ℕ) → InclusiveRow
+  OfSelf : CellRow (List ℕ) → InclusiveRow
   OfCalls : Calls → InclusiveRow
-  OfStack : StackCount (List ℕ) → InclusiveRow
+  OfStack : StackRow (List ℕ) → InclusiveRow
 
 abbrev pub with_inclusive : InclusiveCosts → InclusiveRow → InclusiveCosts
 with_inclusive held (OfSelf row) = with_self held row
@@ -115,23 +115,23 @@ no_costs = record { sums = []; total = 0 }
 
 -- ---- from rows
 
-abbrev pub row_costs : List (StackCount (List ℕ)) → List (Spot × ℕ)
+abbrev pub row_costs : List (StackRow (List ℕ)) → List (Spot × ℕ)
 row_costs [] = []
 row_costs (r ∷ rows) = names_costs r.count (functions_in r.stack) ++ row_costs rows
 
-abbrev pub rows_count : List (StackCount (List ℕ)) → ℕ
+abbrev pub rows_count : List (StackRow (List ℕ)) → ℕ
 rows_count [] = 0
 rows_count (r ∷ rows) = r.count + rows_count rows
 
 -- rows of self costs and of calls of Callgrind runs, and of the stacks of folded ones
-abbrev pub inclusive_rows : List (Cell (List ℕ)) → List Calls → List (StackCount (List ℕ)) → InclusiveCosts
+abbrev pub inclusive_rows : List (CellRow (List ℕ)) → List Calls → List (StackRow (List ℕ)) → InclusiveCosts
 inclusive_rows own calls stacks = record {
   sums = sums_by Function (own ++ rows_of (outward_costs calls ++ row_costs stacks));
-  total = sum_by (λ (r : Cell (List ℕ)). r.cost) own + rows_count stacks;
+  total = sum_by (λ (r : CellRow (List ℕ)). r.cost) own + rows_count stacks;
 }
 
 -- the rows of each kind, among others
-abbrev pub self_in : List InclusiveRow → List (Cell (List ℕ))
+abbrev pub self_in : List InclusiveRow → List (CellRow (List ℕ))
 self_in [] = []
 self_in (OfSelf row ∷ rows) = row ∷ self_in rows
 self_in (OfCalls c ∷ rows) = self_in rows
@@ -143,14 +143,14 @@ calls_in (OfSelf row ∷ rows) = calls_in rows
 calls_in (OfCalls c ∷ rows) = c ∷ calls_in rows
 calls_in (OfStack row ∷ rows) = calls_in rows
 
-abbrev pub stacks_in : List InclusiveRow → List (StackCount (List ℕ))
+abbrev pub stacks_in : List InclusiveRow → List (StackRow (List ℕ))
 stacks_in [] = []
 stacks_in (OfSelf row ∷ rows) = stacks_in rows
 stacks_in (OfCalls c ∷ rows) = stacks_in rows
 stacks_in (OfStack row ∷ rows) = row ∷ stacks_in rows
 
 -- rows of stacks sum to the stacks that were seen, for every test of their frames
-abbrev pub SameStacks : List (StackCount (List ℕ)) → List Seen → Type 0
+abbrev pub SameStacks : List (StackRow (List ℕ)) → List Seen → Type 0
 SameStacks rows seen = (test : List ℕ → Bool) → stacks_count test rows ≡ frames_sum test seen
 
 -- ---- of one function

@@ -6,15 +6,15 @@ use Rattle.std.proofs.lemmas.Iterator.{YieldsList, items_from_drains}
 use Rattle.cost_rows.specs.declared.places.CellPlace.{CellPlace}
 use Rattle.cost_rows.specs.declared.places.Call.{Call}
 use Rattle.cost_rows.specs.Calls.{Calls}
-use Rattle.cost_rows.specs.declared.rows.Cell.{Cell}
-use Rattle.cost_rows.specs.declared.rows.CallEdge.{CallEdge}
-use Rattle.cost_rows.specs.declared.rows.StackCount.{StackCount}
+use Rattle.cost_rows.specs.declared.rows.CellRow.{CellRow}
+use Rattle.cost_rows.specs.declared.rows.ArcRow.{ArcRow}
+use Rattle.cost_rows.specs.declared.rows.StackRow.{StackRow}
 use Rattle.cost_rows.specs.ByNumber.{numbered_at, numbered_cells, numbered_calls, plain_numbered}
 use Rattle.cost_rows.specs.Plain.{plain_stack}
 use Rattle.cost_rows.specs.Walks.{counted_stacks}
 use Rattle.std.proofs.lemmas.List.{map-append}
 use Rattle.cost_rows.proofs.AboveLemmas.{above-more}
-use Rattle.plain_tables.specs.Tables.{CallRow, StackRow}
+use Rattle.plain_tables.specs.Tables.{StoredCall, StoredStack}
 use Rattle.prof_books.specs.Files.{cell_row_of, cell_rows_at, cell_rows, call_row_of, call_rows_from, call_rows_at, call_rows, stack_rows}
 use Rattle.run_lines.specs.FromRows.{line_of_cell, line_of_stack, row_lines}
 
@@ -22,7 +22,7 @@ cells_at : (run : ℕ) (numbers : List ℕ) (p : CellPlace) (event : ℕ) (costs
 cells_at run numbers p event [] = refl
 cells_at run numbers p event (cost ∷ costs) = go (nat_lt 0 cost) (cells_at run numbers p (suc event) costs)
   where
-    rest : List (Cell ℕ)
+    rest : List (CellRow ℕ)
     rest = numbered_at p (suc event) costs
 
     go : (b : Bool) → map (line_of_cell run numbers) rest ≡ cell_rows_at run numbers p (suc event) costs
@@ -36,13 +36,13 @@ cells_are run numbers [] = refl
 cells_are run numbers (e ∷ cells) = map-append (line_of_cell run numbers) (numbered_at e.0 0 e.1) (numbered_cells cells) ∙ ap₂ ◌++◌ (cells_at run numbers e.0 0 e.1) (cells_are run numbers cells)
 
 -- the lines of a row of calls
-abbrev pub lines_of_call : ℕ → List ℕ → CallEdge ℕ (List ℕ) → List CallRow
+abbrev pub lines_of_call : ℕ → List ℕ → ArcRow ℕ (List ℕ) → List StoredCall
 lines_of_call run numbers r =
     call_rows_at run numbers
     (record { place = record { object = r.object; file = r.file; function = r.function; line = r.line }; object = r.called_object; file = r.called_file; function = r.called_function })
     (record { count = r.count; costs = r.costs })
 
-abbrev pub lines_of_calls : ℕ → List ℕ → List (CallEdge ℕ (List ℕ)) → List CallRow
+abbrev pub lines_of_calls : ℕ → List ℕ → List (ArcRow ℕ (List ℕ)) → List StoredCall
 lines_of_calls run numbers [] = []
 lines_of_calls run numbers (r ∷ rows) = lines_of_call run numbers r ++ lines_of_calls run numbers rows
 
@@ -50,7 +50,7 @@ pub calls_are : (run : ℕ) (numbers : List ℕ) (calls : List (Call × Calls)) 
 calls_are run numbers [] = refl
 calls_are run numbers (e ∷ calls) = ap (λ l. call_rows_at run numbers e.0 e.1 ++ l) (calls_are run numbers calls)
 
-pub rows_of_calls : (run : ℕ) (numbers : List ℕ) (rows : List (CallEdge ℕ (Bor (List ℕ)))) → flat_map (row_lines run numbers) rows ≡ lines_of_calls run numbers (map plain_numbered rows)
+pub rows_of_calls : (run : ℕ) (numbers : List ℕ) (rows : List (ArcRow ℕ (Bor (List ℕ)))) → flat_map (row_lines run numbers) rows ≡ lines_of_calls run numbers (map plain_numbered rows)
 rows_of_calls run numbers [] = refl
 rows_of_calls run numbers (r ∷ rows) = ap (λ l. row_lines run numbers r ++ l) (rows_of_calls run numbers rows)
 
@@ -59,7 +59,7 @@ pub parts_more : (run : ℕ) (numbers : List ℕ) (c : Call) (part : ℕ) (costs
     → call_rows_from run numbers c part (costs ++ cost ∷ []) ≡ call_rows_from run numbers c part costs ++ (if nat_lt 0 cost then call_row_of run numbers c (part + length costs) cost ∷ [] else [])
 parts_more run numbers c = above-more (call_row_of run numbers c)
 
-abbrev pub plain_line_of_stack : ℕ → StackCount (List ℕ) → StackRow
+abbrev pub plain_line_of_stack : ℕ → StackRow (List ℕ) → StoredStack
 plain_line_of_stack run r = record { run = run; frames = r.stack; count = r.count }
 
 pub stacks_are : (run : ℕ) (stacks : List (List ℕ × ℕ)) → map (plain_line_of_stack run) (counted_stacks stacks) ≡ stack_rows run stacks
@@ -72,7 +72,7 @@ stacks_are run (e ∷ stacks) = go (nat_lt 0 e.1) (stacks_are run stacks)
     go true more = ap (λ l. record { run = run; frames = e.0; count = e.1 } ∷ l) more
     go false more = more
 
-pub rows_of_stacks : (run : ℕ) (rows : List (StackCount (Bor (List ℕ)))) → flat_map (λ r. line_of_stack run r ∷ []) rows ≡ map (plain_line_of_stack run) (map plain_stack rows)
+pub rows_of_stacks : (run : ℕ) (rows : List (StackRow (Bor (List ℕ)))) → flat_map (λ r. line_of_stack run r ∷ []) rows ≡ map (plain_line_of_stack run) (map plain_stack rows)
 rows_of_stacks run [] = refl
 rows_of_stacks run (r ∷ rows) = ap (λ l. line_of_stack run r ∷ l) (rows_of_stacks run rows)
 

@@ -3,8 +3,8 @@ use Rattle.std.specs.Prelude.{◌<◌, ◌≤◌, ◌^◌, ℕ, ⊤, All, List, 
 use Rattle.cg_formulas.specs.declared.heads.FileHead.{FileHead}
 use Rattle.cost_rows.specs.Content.{Content}
 use Rattle.cost_rows.specs.declared.places.Call.{Call}
-use Rattle.cost_rows.specs.declared.rows.Cell.{Cell}
-use Rattle.cost_rows.specs.declared.rows.StackCount.{StackCount}
+use Rattle.cost_rows.specs.declared.rows.CellRow.{CellRow}
+use Rattle.cost_rows.specs.declared.rows.StackRow.{StackRow}
 use Rattle.cost_rows.specs.Walks.{counted_stacks}
 use Rattle.plain_tables.specs.declared.errors.StoreError.{StoreError}
 use Rattle.plain_tables.specs.declared.errors.StoreError.TheVariants.{Memory, Store}
@@ -12,7 +12,7 @@ use Rattle.prof_books.specs.Heads.{IsComplete}
 use Rattle.run_lines.specs.Sums.{AllFit}
 
 -- the names of a cell have numbers, and its own numbers fit their columns
-pub record CellFits (numbers : List ℕ) (row : Cell ℕ) : Type 0 where
+pub record CellFits (numbers : List ℕ) (row : CellRow ℕ) : Type 0 where
   pub object : row.object < length numbers
   pub file : row.file < length numbers
   pub function : row.function < length numbers
@@ -35,7 +35,7 @@ pub record CallFits (numbers : List ℕ) (call : Call) (at amount : ℕ) : Type 
 
 -- each count above 0 of a stack fits its column
 abbrev pub StacksFit : List (List ℕ × ℕ) → Type 0
-StacksFit stacks = All (λ (s : StackCount (List ℕ)). s.count < 2 ^ 63) (counted_stacks stacks)
+StacksFit stacks = All (λ (s : StackRow (List ℕ)). s.count < 2 ^ 63) (counted_stacks stacks)
 
 -- memory may run out at any time, and all else is refused only where this does not hold
 abbrev pub RefusesUnless : Type 0 → StoreError → Type 0

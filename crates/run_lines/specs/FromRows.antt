@@ -4,19 +4,19 @@ use Rattle.std.specs.Borrow.{Bor}
 use Rattle.cost_rows.specs.declared.places.CellPlace.{CellPlace}
 use Rattle.cost_rows.specs.declared.places.Call.{Call}
 use Rattle.cost_rows.specs.Calls.{Calls}
-use Rattle.cost_rows.specs.declared.rows.Cell.{Cell}
-use Rattle.cost_rows.specs.declared.rows.CallEdge.{CallEdge}
-use Rattle.cost_rows.specs.declared.rows.StackCount.{StackCount}
-use Rattle.plain_tables.specs.Tables.{CellRow, CallRow, StackRow}
+use Rattle.cost_rows.specs.declared.rows.CellRow.{CellRow}
+use Rattle.cost_rows.specs.declared.rows.ArcRow.{ArcRow}
+use Rattle.cost_rows.specs.declared.rows.StackRow.{StackRow}
+use Rattle.plain_tables.specs.Tables.{StoredCell, StoredCall, StoredStack}
 use Rattle.prof_books.specs.Files.{cell_row_of, call_row_of, call_rows_at}
 
-abbrev pub place_of_cell : Cell ℕ → CellPlace
+abbrev pub place_of_cell : CellRow ℕ → CellPlace
 place_of_cell r = record { place = record { object = r.object; file = r.file; function = r.function; line = r.line }; thread = r.thread }
 
-abbrev pub line_of_cell : ℕ → List ℕ → Cell ℕ → CellRow
+abbrev pub line_of_cell : ℕ → List ℕ → CellRow ℕ → StoredCell
 line_of_cell run numbers r = cell_row_of run numbers (place_of_cell r) r.event r.cost
 
-abbrev pub call_of_call : CallEdge ℕ (Bor (List ℕ)) → Call
+abbrev pub call_of_call : ArcRow ℕ (Bor (List ℕ)) → Call
 call_of_call r = record {
   place = record { object = r.object; file = r.file; function = r.function; line = r.line };
   object = r.called_object;
@@ -24,23 +24,23 @@ call_of_call r = record {
   function = r.called_function;
 }
 
-abbrev pub calls_of_call : CallEdge ℕ (Bor (List ℕ)) → Calls
+abbrev pub calls_of_call : ArcRow ℕ (Bor (List ℕ)) → Calls
 calls_of_call r = record { count = r.count; costs = r.costs.now }
 
-abbrev pub line_of_stack : ℕ → StackCount (Bor (List ℕ)) → StackRow
+abbrev pub line_of_stack : ℕ → StackRow (Bor (List ℕ)) → StoredStack
 line_of_stack run r = record { run = run; frames = r.stack.now; count = r.count }
 
 -- ---- the lines of a row of calls
 
-module _ (run : ℕ) (numbers : List ℕ) (row : CallEdge ℕ (Bor (List ℕ))) where
+module _ (run : ℕ) (numbers : List ℕ) (row : ArcRow ℕ (Bor (List ℕ))) where
   -- of a part
-  abbrev pub part_line : ℕ → ℕ → CallRow
+  abbrev pub part_line : ℕ → ℕ → StoredCall
   part_line part sum = call_row_of run numbers (call_of_call row) part sum
 
   -- of a cost, unless it is 0
-  abbrev pub cost_lines : ℕ → ℕ → List CallRow
+  abbrev pub cost_lines : ℕ → ℕ → List StoredCall
   cost_lines part cost = if nat_lt 0 cost then part_line part cost ∷ [] else []
 
   -- of all parts
-  abbrev pub row_lines : List CallRow
+  abbrev pub row_lines : List StoredCall
   row_lines = call_rows_at run numbers (call_of_call row) (calls_of_call row)

@@ -5,8 +5,8 @@ ghost use Rattle.run_lines.specs.Fits.{CallFits, CellFits};
 ghost use Rattle.run_lines.specs.FromRows.{place_of_cell, call_of_call, line_of_stack};
 ghost use Rattle.store_schema.specs.Lines.{cell_row, call_row, stack_row};
 
-use cost_rows::{CallEdge, Cell, StackCount};
-use store_schema::{CallRow, CellRow, ColumnInt, StackRow, column_int_of, small_of};
+use cost_rows::{ArcRow, CellRow, StackRow};
+use store_schema::{ColumnInt, StoredCall, StoredCell, StoredStack, column_int_of, small_of};
 
 /// The table's number of a name that the file has under a number of its own.
 fn number_of(numbers: &[u32], name: u32) -> Option<u32>
@@ -20,11 +20,11 @@ fn number_of(numbers: &[u32], name: u32) -> Option<u32>
 }
 
 /// The line of a cell, unless a number in it is too great for its column, or a name has none.
-pub fn cell_of(run: u32, numbers: &[u32], row: &Cell<u32>) -> Option<CellRow>
+pub fn cell_of(run: u32, numbers: &[u32], row: &CellRow<u32>) -> Option<StoredCell>
     ensures some { IfSome result (λ c. cell_row c ≡ cell_row_of run numbers.now (place_of_cell row.now) row.now.event row.now.cost) }
     ensures none { result ≡ None → ¬ CellFits numbers.now row.now }
 {
-    Some(CellRow {
+    Some(StoredCell {
         run,
         object: number_of(numbers, row.object)?,
         file: number_of(numbers, row.file)?,
@@ -40,14 +40,14 @@ pub fn cell_of(run: u32, numbers: &[u32], row: &Cell<u32>) -> Option<CellRow>
 pub fn call_of(
     run: u32,
     numbers: &[u32],
-    row: &CallEdge<u32, &[u128]>,
+    row: &ArcRow<u32, &[u128]>,
     part: usize,
     sum: u128,
-) -> Option<CallRow>
+) -> Option<StoredCall>
     ensures some { IfSome result (λ a. call_row a ≡ call_row_of run numbers.now (call_of_call row.now) part sum) }
     ensures none { result ≡ None → ¬ CallFits numbers.now (call_of_call row.now) part sum }
 {
-    Some(CallRow {
+    Some(StoredCall {
         run,
         object: number_of(numbers, row.object)?,
         file: number_of(numbers, row.file)?,
@@ -62,11 +62,11 @@ pub fn call_of(
 }
 
 /// The line of a stack, unless its count is too great for its column.
-pub fn stack_of<'a>(run: u32, row: &StackCount<&'a [u8]>) -> Option<StackRow<'a>>
+pub fn stack_of<'a>(run: u32, row: &StackRow<&'a [u8]>) -> Option<StoredStack<'a>>
     ensures some { IfSome result (λ s. stack_row s ≡ line_of_stack run row.now) }
     ensures none { (result ≡ None) ↔ (2 ^ 63 ≤ row.now.count) }
 {
-    Some(StackRow {
+    Some(StoredStack {
         run,
         frames: row.stack,
         count: column_int_of(row.count)?,

@@ -9,14 +9,14 @@ use crate::file_lines::stack_of;
 use crate::head_lines::add;
 use cost_rows::FileRows;
 use std::alloc::Global;
-use store_schema::{StackRow, StoreError};
+use store_schema::{StoreError, StoredStack};
 
 /// The lines of the counts of stacks. `Store` where a count is too great for its column.
 pub fn stack_lines(
     alloc: Global,
     run: u32,
     rows: &FileRows,
-) -> Result<Vec<StackRow<'_>>, StoreError>
+) -> Result<Vec<StoredStack<'_>>, StoreError>
     ensures value { IfOk result (λ lines. map stack_row lines.items ≡ stack_rows run (content_of rows.now).stacks) }
     ensures refused { IfErr result (RefusesUnless (StacksFit (content_of rows.now).stacks)) }
 {

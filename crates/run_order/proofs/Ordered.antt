@@ -5,7 +5,7 @@ use Rattle.cg_formulas.specs.declared.heads.FileHead.{FileHead}
 use Rattle.cost_rows.specs.Content.{Content}
 use Rattle.plain_tables.proofs.Lists.{all-append}
 use Rattle.plain_tables.proofs.Runs.{lines_below}
-use Rattle.plain_tables.specs.Tables.{Tables, CellRow, CallRow, StackRow, new_tables}
+use Rattle.plain_tables.specs.Tables.{Tables, StoredCell, StoredCall, StoredStack, new_tables}
 use Rattle.plain_tables.specs.Sound.{AreOfRuns, AreSound}
 use Rattle.plain_tables.specs.Changes.{has_name, has_member, named, with_new_name, with_member, without_run, with_group, without_group, joined, without_member, with_baseline}
 use Rattle.plain_tables.specs.Files.{all_named, numbers_in}
@@ -69,13 +69,13 @@ filed_in_order f t number sound order =
     let same = sym (all_grown f.rows.names (with_head f.line f.events f.derived f.coefs t)).1 in
     record {
       cells =
-          subst (λ (u : Tables). ByRun (λ (c : CellRow). c.run) (u.cells ++ cell_rows run numbers f.rows.cells)) same
+          subst (λ (u : Tables). ByRun (λ (c : StoredCell). c.run) (u.cells ++ cell_rows run numbers f.rows.cells)) same
           (behind (λ c. c.run) t.cells (cell_rows run numbers f.rows.cells) order.cells sound.cells (cells_of_run run numbers f.rows.cells));
       calls =
-          subst (λ (u : Tables). ByRun (λ (a : CallRow). a.run) (u.calls ++ call_rows run numbers f.rows.calls)) same
+          subst (λ (u : Tables). ByRun (λ (a : StoredCall). a.run) (u.calls ++ call_rows run numbers f.rows.calls)) same
           (behind (λ a. a.run) t.calls (call_rows run numbers f.rows.calls) order.calls sound.calls (calls_of_run run numbers f.rows.calls));
       stacks =
-          subst (λ (u : Tables). ByRun (λ (s : StackRow). s.run) (u.stacks ++ stack_rows run f.rows.stacks)) same
+          subst (λ (u : Tables). ByRun (λ (s : StoredStack). s.run) (u.stacks ++ stack_rows run f.rows.stacks)) same
           (behind (λ s. s.run) t.stacks (stack_rows run f.rows.stacks) order.stacks sound.stacks (stacks_of_run run f.rows.stacks));
     }
   where
@@ -88,9 +88,9 @@ file_in_order kind digest label head content t sound order = filed_in_order (fil
 
 pub without_run_in_order : (n : ℕ) (t : Tables) → AreInOrder t → AreInOrder (without_run n t)
 without_run_in_order n t order = record {
-  cells = some_by_run (λ (c : CellRow). c.run) _ t.cells order.cells;
-  calls = some_by_run (λ (a : CallRow). a.run) _ t.calls order.calls;
-  stacks = some_by_run (λ (s : StackRow). s.run) _ t.stacks order.stacks;
+  cells = some_by_run (λ (c : StoredCell). c.run) _ t.cells order.cells;
+  calls = some_by_run (λ (a : StoredCall). a.run) _ t.calls order.calls;
+  stacks = some_by_run (λ (s : StoredStack). s.run) _ t.stacks order.stacks;
 }
 
 -- ---- names

@@ -1,12 +1,12 @@
 -- Rows with the numbers of their names, and the same with names in place; names that are told apart, and some of them.
 use Rattle.std.specs.Prelude.{◌≡◌, ◌≢◌, ◌==◌, ℕ, Bool, false, List, Option, Some, None}
 use Rattle.std.specs.List.{AllByRecursion}
-use Rattle.cost_rows.specs.declared.rows.CallEdge.{CallEdge}
-use Rattle.cost_rows.specs.declared.rows.Cell.{Cell}
+use Rattle.cost_rows.specs.declared.rows.ArcRow.{ArcRow}
+use Rattle.cost_rows.specs.declared.rows.CellRow.{CellRow}
 use Rattle.plain_tables.specs.Tables.{NameRow}
 use Rattle.prof_books.specs.Book.{name_of, IsHeld}
 
-abbrev pub named_cell : List NameRow → Cell ℕ → Cell (List ℕ)
+abbrev pub named_cell : List NameRow → CellRow ℕ → CellRow (List ℕ)
 named_cell names r = record {
   object = name_of names r.object;
   file = name_of names r.file;
@@ -17,7 +17,7 @@ named_cell names r = record {
   cost = r.cost;
 }
 
-abbrev pub named_call : List NameRow → CallEdge ℕ (List ℕ) → CallEdge (List ℕ) (List ℕ)
+abbrev pub named_call : List NameRow → ArcRow ℕ (List ℕ) → ArcRow (List ℕ) (List ℕ)
 named_call names r = record {
   object = name_of names r.object;
   file = name_of names r.file;

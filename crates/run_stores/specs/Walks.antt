@@ -2,21 +2,21 @@
 use Rattle.std.specs.Prelude.{◌≡◌, ◌<◌, ℕ, List, ◌∷◌, map, flat_map, fold, length}
 use Rattle.std.specs.List.{AllByRecursion}
 use Rattle.cost_rows.specs.Above.{rows_above}
-use Rattle.cost_rows.specs.declared.rows.CallEdge.{CallEdge}
-use Rattle.cost_rows.specs.declared.rows.Cell.{Cell}
-use Rattle.plain_tables.specs.Tables.{CellRow, CallRow}
+use Rattle.cost_rows.specs.declared.rows.ArcRow.{ArcRow}
+use Rattle.cost_rows.specs.declared.rows.CellRow.{CellRow}
+use Rattle.plain_tables.specs.Tables.{StoredCell, StoredCall}
 
 -- ---- cells
 
-abbrev pub cell_numbers : CellRow → Cell ℕ
+abbrev pub cell_numbers : StoredCell → CellRow ℕ
 cell_numbers c = record { object = c.object; file = c.file; function = c.function; line = c.line; thread = c.thread; event = c.event; cost = c.cost }
 
 -- a cell is of one of so many events
-abbrev pub IsOfAnEvent : ℕ → CellRow → Type 0
+abbrev pub IsOfAnEvent : ℕ → StoredCell → Type 0
 IsOfAnEvent events c = c.event < events
 
 -- the events of these rows are there, and their cells folded to this, one after another
-pub record CellsFoldTo {M : Type 0} (events : ℕ) (step : M → Cell ℕ → M) (start came : M) (lines : List CellRow) : Type 0 where
+pub record CellsFoldTo {M : Type 0} (events : ℕ) (step : M → CellRow ℕ → M) (start came : M) (lines : List StoredCell) : Type 0 where
   pub of_events : AllByRecursion (IsOfAnEvent events) lines
   pub comes : came ≡ fold step start (map cell_numbers lines)
 
@@ -34,7 +34,7 @@ pub record PartNumbers : Type 0 where
   pub part : ℕ
   pub sum : ℕ
 
-abbrev pub part_numbers : CallRow → PartNumbers
+abbrev pub part_numbers : StoredCall → PartNumbers
 part_numbers a = record {
   object = a.object;
   file = a.file;
@@ -48,7 +48,7 @@ part_numbers a = record {
 }
 
 -- a part of a row of calls
-abbrev pub part_of : CallEdge ℕ (List ℕ) → ℕ → ℕ → PartNumbers
+abbrev pub part_of : ArcRow ℕ (List ℕ) → ℕ → ℕ → PartNumbers
 part_of r part sum = record {
   object = r.object;
   file = r.file;
@@ -62,12 +62,12 @@ part_of r part sum = record {
 }
 
 -- what a row of calls has: their number, always, and then their costs above 0
-abbrev pub parts_of : CallEdge ℕ (List ℕ) → List PartNumbers
+abbrev pub parts_of : ArcRow ℕ (List ℕ) → List PartNumbers
 parts_of r = part_of r 0 r.count ∷ rows_above (part_of r) 1 r.costs
 
 -- these are the rows of calls, each with a cost for each event, and the calls folded to this, one after another
-pub record CallsFoldTo {M : Type 0} (events : ℕ) (step : M → CallEdge ℕ (List ℕ) → M) (start came : M) (lines : List CallRow) : Type 0 where
-  pub rows : List (CallEdge ℕ (List ℕ))
+pub record CallsFoldTo {M : Type 0} (events : ℕ) (step : M → ArcRow ℕ (List ℕ) → M) (start came : M) (lines : List StoredCall) : Type 0 where
+  pub rows : List (ArcRow ℕ (List ℕ))
   pub parts_are : map part_numbers lines ≡ flat_map parts_of rows
-  pub long : AllByRecursion (λ (r : CallEdge ℕ (List ℕ)). length r.costs ≡ events) rows
+  pub long : AllByRecursion (λ (r : ArcRow ℕ (List ℕ)). length r.costs ≡ events) rows
   pub comes : came ≡ fold step start rows

@@ -4,9 +4,9 @@ use crate::lines::{Line, RowOfMany};
 use crate::values::push_values;
 use sqlite::types::{ToSql, ValueRef};
 use std::alloc::AllocError;
-use store_schema::CallRow;
+use store_schema::StoredCall;
 
-impl Line for CallRow {
+impl Line for StoredCall {
     ghost use Rattle.plain_tables.specs.Changes.{with_calls};
     ghost use Rattle.plain_tables.specs.Tables as tables;
     ghost use Rattle.store_schema.specs.Tables.{arc_columns};
@@ -14,7 +14,7 @@ impl Line for CallRow {
     ghost use Rattle.run_writing.specs.LineInserts.{call_inserts, no_calls, more_calls};
     ghost use Rattle.store_schema.specs.Lines.{call_row};
 
-    ghost Plain = { tables.CallRow };
+    ghost Plain = { tables.StoredCall };
 
     ghost plain = { call_row };
 
@@ -53,7 +53,7 @@ impl Line for CallRow {
     ghost both = { more_calls };
 }
 
-impl RowOfMany for CallRow {
+impl RowOfMany for StoredCall {
     ghost use Rattle.store_schema.specs.ManyTexts.{insert_arcs_sql};
     ghost use Rattle.run_writing.specs.LineInserts.{calls_insert};
 

@@ -4,9 +4,9 @@ use crate::lines::{Line, RowOfMany};
 use crate::values::push_values;
 use sqlite::types::{ToSql, ValueRef};
 use std::alloc::AllocError;
-use store_schema::CellRow;
+use store_schema::StoredCell;
 
-impl Line for CellRow {
+impl Line for StoredCell {
     ghost use Rattle.plain_tables.specs.Changes.{with_cells};
     ghost use Rattle.plain_tables.specs.Tables as tables;
     ghost use Rattle.store_schema.specs.Tables.{cell_columns};
@@ -14,7 +14,7 @@ impl Line for CellRow {
     ghost use Rattle.run_writing.specs.LineInserts.{cell_inserts, no_cells, more_cells};
     ghost use Rattle.store_schema.specs.Lines.{cell_row};
 
-    ghost Plain = { tables.CellRow };
+    ghost Plain = { tables.StoredCell };
 
     ghost plain = { cell_row };
 
@@ -51,7 +51,7 @@ impl Line for CellRow {
     ghost both = { more_cells };
 }
 
-impl RowOfMany for CellRow {
+impl RowOfMany for StoredCell {
     ghost use Rattle.store_schema.specs.ManyTexts.{insert_cells_sql};
     ghost use Rattle.run_writing.specs.LineInserts.{cells_insert};
 

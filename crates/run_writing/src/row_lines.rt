@@ -5,11 +5,11 @@ ghost use Rattle.run_writing.specs.Queues.{QueuesCalls};
 
 use crate::line_writing::queue;
 use crate::lines::RowOfMany;
-use cost_rows::{CallEdge, Cell, StackCount};
+use cost_rows::{ArcRow, CellRow, StackRow};
 use run_lines::{call_of, cell_of, stack_of};
 use sqlite::{Alter, Transaction};
 use std::alloc::Global;
-use store_schema::{CallRow, CellRow, StackRow, StoreError};
+use store_schema::{StoreError, StoredCall, StoredCell, StoredStack};
 
 /// A row of a file, which becomes lines of a table.
 pub(crate) trait BecomesRows<L: RowOfMany + Drop> {
@@ -34,7 +34,7 @@ pub(crate) trait BecomesRows<L: RowOfMany + Drop> {
             × Queues S.Store L.plain L.with_lines (is_ok result) waiting.old.items lines waiting.new.items tx.old tx.new };
 }
 
-impl BecomesRows<CellRow> for Cell<u32> {
+impl BecomesRows<StoredCell> for CellRow<u32> {
     ghost use Rattle.std.specs.Prelude.{◌∷◌, []};
     ghost use Rattle.plain_tables.specs.Changes.{with_cells};
     ghost use Rattle.run_lines.specs.FromRows.{line_of_cell};
@@ -45,7 +45,7 @@ impl BecomesRows<CellRow> for Cell<u32> {
         &self,
         tx: &mut Transaction<'_, S>,
         alloc: Global,
-        waiting: &mut Vec<CellRow>,
+        waiting: &mut Vec<StoredCell>,
         run: u32,
         numbers: &[u32],
     ) -> Result<(), StoreError> {
@@ -53,7 +53,7 @@ impl BecomesRows<CellRow> for Cell<u32> {
     }
 }
 
-impl<'a> BecomesRows<StackRow<'a>> for StackCount<&'a [u8]> {
+impl<'a> BecomesRows<StoredStack<'a>> for StackRow<&'a [u8]> {
     ghost use Rattle.std.specs.Prelude.{◌∷◌, []};
     ghost use Rattle.plain_tables.specs.Changes.{with_stacks};
     ghost use Rattle.run_lines.specs.FromRows.{line_of_stack};
@@ -64,7 +64,7 @@ impl<'a> BecomesRows<StackRow<'a>> for StackCount<&'a [u8]> {
         &self,
         tx: &mut Transaction<'_, S>,
         alloc: Global,
-        waiting: &mut Vec<StackRow<'a>>,
+        waiting: &mut Vec<StoredStack<'a>>,
         run: u32,
         _numbers: &[u32],
     ) -> Result<(), StoreError> {
@@ -76,10 +76,10 @@ impl<'a> BecomesRows<StackRow<'a>> for StackCount<&'a [u8]> {
 fn insert_cost<S: Alter>(
     tx: &mut Transaction<'_, S>,
     alloc: Global,
-    waiting: &mut Vec<CallRow>,
+    waiting: &mut Vec<StoredCall>,
     run: u32,
     numbers: &[u32],
-    row: &CallEdge<u32, &[u128]>,
+    row: &ArcRow<u32, &[u128]>,
     part: usize,
     cost: u128,
 ) -> Result<(), StoreError>
@@ -93,7 +93,7 @@ fn insert_cost<S: Alter>(
 }
 
 /// Their number, and each cost above 0.
-impl BecomesRows<CallRow> for CallEdge<u32, &[u128]> {
+impl BecomesRows<StoredCall> for ArcRow<u32, &[u128]> {
     ghost use Rattle.plain_tables.specs.Changes.{with_calls};
     ghost use Rattle.run_lines.specs.FromRows.{row_lines};
 
@@ -103,7 +103,7 @@ impl BecomesRows<CallRow> for CallEdge<u32, &[u128]> {
         &self,
         tx: &mut Transaction<'_, S>,
         alloc: Global,
-        waiting: &mut Vec<CallRow>,
+        waiting: &mut Vec<StoredCall>,
         run: u32,
         numbers: &[u32],
     ) -> Result<(), StoreError> {

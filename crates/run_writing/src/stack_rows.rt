@@ -5,9 +5,9 @@ use crate::lines::{Line, RowOfMany};
 use crate::values::push_values;
 use sqlite::types::{ToSql, ValueRef};
 use std::alloc::AllocError;
-use store_schema::StackRow;
+use store_schema::StoredStack;
 
-impl Line for StackRow<'_> {
+impl Line for StoredStack<'_> {
     ghost use Rattle.plain_tables.specs.Changes.{with_stacks};
     ghost use Rattle.plain_tables.specs.Tables as tables;
     ghost use Rattle.store_schema.specs.Tables.{stack_columns};
@@ -15,7 +15,7 @@ impl Line for StackRow<'_> {
     ghost use Rattle.run_writing.specs.LineInserts.{stack_inserts, no_stacks, more_stacks};
     ghost use Rattle.store_schema.specs.Lines.{stack_row};
 
-    ghost Plain = { tables.StackRow };
+    ghost Plain = { tables.StoredStack };
 
     ghost plain = { stack_row };
 
@@ -45,7 +45,7 @@ impl Line for StackRow<'_> {
     ghost both = { more_stacks };
 }
 
-impl RowOfMany for StackRow<'_> {
+impl RowOfMany for StoredStack<'_> {
     ghost use Rattle.store_schema.specs.ManyTexts.{insert_stacks_sql};
     ghost use Rattle.run_writing.specs.LineInserts.{stacks_insert};
 

@@ -4,7 +4,7 @@ ghost use Rattle.std.specs.Prelude.{◌≡◌, ◌+◌, ◌*◌, ◌<◌, ◌≤
 ghost use Rattle.cost_rows.specs.Plain.{plain_cell};
 ghost use Rattle.report_texts.specs.Costs.{weighted};
 
-use cost_rows::Cell;
+use cost_rows::CellRow;
 
 /// The greatest sum of a report, and one more.
 const TOO_MUCH: u128 = 1 << 112;
@@ -42,14 +42,14 @@ pub fn times_of(counts: &[u64], column: usize) -> u64
 pub fn weighted_within<'a>(
     before: u128,
     counts: &[u64],
-    row: &Cell<&'a [u8]>,
-) -> Option<Cell<&'a [u8]>>
+    row: &CellRow<&'a [u8]>,
+) -> Option<CellRow<&'a [u8]>>
     ensures row { IfSome result (λ cell. plain_cell cell ≡ weighted counts.now (plain_cell row.now)) }
     ensures within { IfSome result (λ cell. before + cell.cost < 2 ^ 112) }
     ensures past { result ≡ None → 2 ^ 112 ≤ before + (weighted counts.now (plain_cell row.now)).cost }
 {
     let cost = cost_within(before, times_of(counts, row.event), row.cost)?;
-    Some(Cell {
+    Some(CellRow {
         object: row.object,
         file: row.file,
         function: row.function,

@@ -10,9 +10,9 @@ use Rattle.cost_rows.specs.StackSums.{frames_sum}
 use Rattle.cost_rows.specs.Sums.{Spot, callee_spot, caller_spot, has_call, self_sum, spot_of}
 use Rattle.cost_rows.specs.WalkSums.{has_calls, rows_cost, stacks_count}
 use Rattle.cost_rows.specs.Walks.{HaveCosts, HaveCounts}
-use Rattle.cost_rows.specs.declared.rows.CallEdge.{CallEdge}
-use Rattle.cost_rows.specs.declared.rows.Cell.{Cell}
-use Rattle.cost_rows.specs.declared.rows.StackCount.{StackCount}
+use Rattle.cost_rows.specs.declared.rows.ArcRow.{ArcRow}
+use Rattle.cost_rows.specs.declared.rows.CellRow.{CellRow}
+use Rattle.cost_rows.specs.declared.rows.StackRow.{StackRow}
 use Rattle.report_texts.specs.Calls.{Calls, CallsRepresentEach, EventEdges, all_edges, all_calls, call_report_of, call_report_text, calls_by, weighted_calls, with_calls}
 use Rattle.report_texts.specs.Functions.{function_spot, is_one_function}
 use Rattle.report_texts.specs.Inclusive.{is_frame}
@@ -214,7 +214,7 @@ module _ (f : Spot) where
       go false here any rest = let later = rest any in let low = later.1 in (later.0, omega (arith, low))
   self_there (Called callee cost ∷ records) is = self_there records is
 
-  cells_positive : (k : ℕ) (cells : List (Cell (List ℕ))) → 0 < rows_cost of_f k cells → is_in_cells f cells ≡ true
+  cells_positive : (k : ℕ) (cells : List (CellRow (List ℕ))) → 0 < rows_cost of_f k cells → is_in_cells f cells ≡ true
   cells_positive k [] low = absurd (omega (arith, low))
   cells_positive k (r ∷ cells) low = go (of_f (place_of_row r)) (r.event == k) refl low (cells_positive k cells)
     where
@@ -223,7 +223,7 @@ module _ (f : Spot) where
       go true b here low rest = or_first _ _ here
       go false b here low rest = or_second _ _ (rest (omega (arith, low)))
 
-  cell_there : (cells : List (Cell (List ℕ))) → HaveCosts cells → is_in_cells f cells ≡ true → (k : ℕ) × (0 < rows_cost of_f k cells)
+  cell_there : (cells : List (CellRow (List ℕ))) → HaveCosts cells → is_in_cells f cells ≡ true → (k : ℕ) × (0 < rows_cost of_f k cells)
   cell_there [] above is = absurd cc
   cell_there (r ∷ cells) above is = go (of_f (place_of_row r)) refl is (cell_there cells above.1)
     where
@@ -234,13 +234,13 @@ module _ (f : Spot) where
       go true here any rest = (r.event, subst (λ b. 0 < (if b then r.cost else 0) + rows_cost of_f r.event cells) (sym (both_true _ _ here (same_number r.event))) (omega (arith, low)))
       go false here any rest = let later = rest any in let some = later.1 in (later.0, omega (arith, some))
 
-  cells_know : (cells : List (Cell (List ℕ))) (records : List Record) → HaveCosts cells → ((passes : Spot → Bool) (k : ℕ) → rows_cost passes k cells ≡ self_sum passes k records)
+  cells_know : (cells : List (CellRow (List ℕ))) (records : List Record) → HaveCosts cells → ((passes : Spot → Bool) (k : ℕ) → rows_cost passes k cells ≡ self_sum passes k records)
       → is_in_cells f cells ≡ list_any self_tells records
   cells_know cells records above same = same_tests _ _
       (λ is. let there = cell_there cells above is in self_positive there.0 records (subst (λ n. 0 < n) (same of_f there.0) there.1))
       (λ is. let there = self_there records is in cells_positive there.0 cells (subst (λ n. 0 < n) (sym (same of_f there.0)) there.1))
 
-  stacks_positive : (stacks : List (StackCount (List ℕ))) → 0 < stacks_count (is_frame f) stacks → is_in_stacks f stacks ≡ true
+  stacks_positive : (stacks : List (StackRow (List ℕ))) → 0 < stacks_count (is_frame f) stacks → is_in_stacks f stacks ≡ true
   stacks_positive [] low = absurd (omega (arith, low))
   stacks_positive (r ∷ stacks) low = go (is_frame f r.stack) refl low (stacks_positive stacks)
     where
@@ -249,7 +249,7 @@ module _ (f : Spot) where
       go true here low rest = or_first _ _ here
       go false here low rest = or_second _ _ (rest (omega (arith, low)))
 
-  stack_there : (stacks : List (StackCount (List ℕ))) → HaveCounts stacks → is_in_stacks f stacks ≡ true → 0 < stacks_count (is_frame f) stacks
+  stack_there : (stacks : List (StackRow (List ℕ))) → HaveCounts stacks → is_in_stacks f stacks ≡ true → 0 < stacks_count (is_frame f) stacks
   stack_there [] above is = absurd cc
   stack_there (r ∷ stacks) above is = go (is_frame f r.stack) is (stack_there stacks above.1)
     where
@@ -281,18 +281,18 @@ module _ (f : Spot) where
           subst (λ b. 0 < (if b then s.stack.count else 0) + frames_sum (is_frame f) seen) (sym at) (omega (arith, low))
       go false here any rest = let some = rest any in omega (arith, some)
 
-  stacks_know : (stacks : List (StackCount (List ℕ))) (seen : List Seen) → HaveCounts stacks → ((test : List ℕ → Bool) → stacks_count test stacks ≡ frames_sum test seen)
+  stacks_know : (stacks : List (StackRow (List ℕ))) (seen : List Seen) → HaveCounts stacks → ((test : List ℕ → Bool) → stacks_count test stacks ≡ frames_sum test seen)
       → is_in_stacks f stacks ≡ list_any (is_seen_in f) seen
   stacks_know stacks seen above same = same_tests _ _
       (λ is. seen_positive seen (subst (λ n. 0 < n) (same (is_frame f)) (stack_there stacks above is)))
       (λ is. stacks_positive stacks (subst (λ n. 0 < n) (sym (same (is_frame f))) (seen_there seen is)))
 
-  calls_touch : (coefs : List ℕ) (edges : List (CallEdge (List ℕ) (List ℕ))) → list_any (touches f) (map (weighted_calls coefs) edges) ≡ has_calls either edges
+  calls_touch : (coefs : List ℕ) (edges : List (ArcRow (List ℕ) (List ℕ))) → list_any (touches f) (map (weighted_calls coefs) edges) ≡ has_calls either edges
   calls_touch coefs [] = refl
   calls_touch coefs (a ∷ edges) = ap (λ b. touches f (weighted_calls coefs a) || b) (calls_touch coefs edges)
 
   -- of one file
-  file_knows : (h : History) (t : Tables) (file : File) (coefs : List ℕ) (edges : List (CallEdge (List ℕ) (List ℕ))) → TablesRepresent h t → Has (held h) file → AreCallsOf file.number t edges
+  file_knows : (h : History) (t : Tables) (file : File) (coefs : List ℕ) (edges : List (ArcRow (List ℕ) (List ℕ))) → TablesRepresent h t → Has (held h) file → AreCallsOf file.number t edges
       → list_any (touches f) (map (weighted_calls coefs) edges) || (is_in_cells f (cells_held file.number t) || is_in_stacks f (stacks_held file.number t)) ≡ knows f file
   file_knows h t file coefs edges represent there are =
       let told = tells_rows h t represent file there in

@@ -10,9 +10,9 @@ use Rattle.cost_rows.specs.StackSums.{frames_sum}
 use Rattle.cost_rows.specs.Sums.{call_sum, count_sum, has_call, self_sum}
 use Rattle.cost_rows.specs.WalkSums.{stacks_count}
 use Rattle.cost_rows.specs.declared.keys.Key.TheVariants.{Function}
-use Rattle.cost_rows.specs.declared.rows.CallEdge.{CallEdge}
-use Rattle.cost_rows.specs.declared.rows.Cell.{Cell}
-use Rattle.cost_rows.specs.declared.rows.StackCount.{StackCount}
+use Rattle.cost_rows.specs.declared.rows.ArcRow.{ArcRow}
+use Rattle.cost_rows.specs.declared.rows.CellRow.{CellRow}
+use Rattle.cost_rows.specs.declared.rows.StackRow.{StackRow}
 use Rattle.report_texts.specs.Calls.{CallsRepresent, CallsRepresentEach, EventEdges, all_edges, weighted_calls}
 use Rattle.report_texts.specs.Costs.{EventCells, StandForEach, Represents, all_rows, weighted}
 use Rattle.report_texts.specs.Functions.{is_one_function}
@@ -20,7 +20,7 @@ use Rattle.report_texts.specs.Inclusive.{InclusiveCosts, InclusiveRow, OfSelf, O
 use Rattle.cost_reports.proofs.AddedLemmas.{inclusive_come_to}
 use Rattle.cost_reports.proofs.InclusiveLemmas.{inclusive_are_records}
 use Rattle.prof_books.specs.Book.{cell_held, cells_held, stacks_held, IsHeld}
-use Rattle.plain_tables.specs.Tables.{Tables, CellRow, NameRow}
+use Rattle.plain_tables.specs.Tables.{Tables, StoredCell, NameRow}
 use Rattle.profile_records.specs.Stacks.{Seen}
 use Rattle.profile_records.specs.declared.kinds.Kind.{Kind}
 use Rattle.profile_records.specs.declared.kinds.Kind.TheVariants.{Callgrind, Folded}
@@ -62,7 +62,7 @@ all_so P Q so (x ∷ xs) all = (so x all.0, all_so P Q so xs all.1)
 
 -- ---- rows of one kind, taken one after another
 
-self_counts : (m : Counting) (rows : List (Cell ℕ)) → (fold with_self_row m rows).counts ≡ m.counts
+self_counts : (m : Counting) (rows : List (CellRow ℕ)) → (fold with_self_row m rows).counts ≡ m.counts
 self_counts m [] = refl
 self_counts m (row ∷ rows) = self_counts (with_self_row m row) rows
 
@@ -71,7 +71,7 @@ module _ (names : List NameRow) where
   abbrev Went : PartSums → PartSums → (InclusiveCosts → InclusiveCosts) → Type 0
   Went old new added = AreHeld names new → AreHeld names old × (costs_named names new ≡ added (costs_named names old))
 
-  self_taken : (m : Counting) (lines : List CellRow) → Went m.sums (fold with_self_row m (map cell_numbers lines)).sums (λ costs. fold with_inclusive costs (self_rows m.counts (map (cell_held names) lines)))
+  self_taken : (m : Counting) (lines : List StoredCell) → Went m.sums (fold with_self_row m (map cell_numbers lines)).sums (λ costs. fold with_inclusive costs (self_rows m.counts (map (cell_held names) lines)))
   self_taken m [] held = (held, refl)
   self_taken m (line ∷ lines) held =
       let row = weighted_number m.counts (cell_numbers line) in
@@ -80,7 +80,7 @@ module _ (names : List NameRow) where
         rest.1 ∙ ap (λ costs. fold with_inclusive costs (self_rows m.counts (map (cell_held names) lines))) (self_more names m.sums row),
       )
 
-  calls_taken : AreApart names → (m : Counting) (edges : List (CallEdge ℕ (List ℕ)))
+  calls_taken : AreApart names → (m : Counting) (edges : List (ArcRow ℕ (List ℕ)))
       → Went m.sums (fold with_call_row m edges).sums (λ costs. fold with_inclusive costs (call_rows m.counts (map (named_call names) edges)))
   calls_taken apart m [] held = (held, refl)
   calls_taken apart m (call ∷ edges) held =
@@ -88,14 +88,14 @@ module _ (names : List NameRow) where
       let one = calls_more names apart m.sums m.counts call rest.0 in
       (one.0, rest.1 ∙ ap (λ costs. fold with_inclusive costs (call_rows m.counts (map (named_call names) edges))) one.1)
 
-  pub stacks_taken : (m : Counting) (stacks : List (StackCount (List ℕ))) → Went m.sums (fold with_stack_row m stacks).sums (λ costs. fold with_inclusive costs (map OfStack stacks))
+  pub stacks_taken : (m : Counting) (stacks : List (StackRow (List ℕ))) → Went m.sums (fold with_stack_row m stacks).sums (λ costs. fold with_inclusive costs (map OfStack stacks))
   stacks_taken m [] held = (held, refl)
   stacks_taken m (stack ∷ stacks) held =
       let rest = stacks_taken (with_stack_row m stack) stacks held in
       (rest.0, rest.1 ∙ ap (λ costs. fold with_inclusive costs (map OfStack stacks)) (stack_more names m.sums stack))
 
   -- self costs, and calls after them
-  pub both_taken : AreApart names → (m : Counting) (lines : List CellRow) (edges : List (CallEdge ℕ (List ℕ)))
+  pub both_taken : AreApart names → (m : Counting) (lines : List StoredCell) (edges : List (ArcRow ℕ (List ℕ)))
       → Went m.sums (fold with_call_row (fold with_self_row m (map cell_numbers lines)) edges).sums
       (λ costs. fold with_inclusive costs (self_rows m.counts (map (cell_held names) lines) ++ call_rows m.counts (map (named_call names) edges)))
   both_taken apart m lines edges held =
@@ -159,7 +159,7 @@ text_told t runs s names event text apart added are is =
 -- ---- the rows of one file
 
 -- self costs, calls and stacks, one kind after the other
-abbrev by_kind : EventCells → EventEdges → List (StackCount (List ℕ)) → List InclusiveRow
+abbrev by_kind : EventCells → EventEdges → List (StackRow (List ℕ)) → List InclusiveRow
 by_kind cells edges stacks = self_rows cells.coefs cells.cells ++ (call_rows edges.coefs edges.calls ++ map OfStack stacks)
 
 -- rows add what cells, calls and stacks do that represent a file
@@ -168,7 +168,7 @@ record AddsFile (event : List ℕ) (f : File) (rows : List InclusiveRow) : Type 
   own : Represents (inclusive_records event f) cells
   edges : EventEdges
   calls : CallsRepresent (inclusive_records event f) edges
-  stacks : List (StackCount (List ℕ))
+  stacks : List (StackRow (List ℕ))
   seen : SameStacks stacks (event_stacks event f)
   same : (old : InclusiveCosts) → fold with_inclusive old rows ≡ fold with_inclusive old (by_kind cells edges stacks)
 
@@ -195,25 +195,25 @@ none_seen event f is = λ test. ap (frames_sum test) (sym (go (has_event event f
 same_total : (n : ℕ) → n + 0 ≡ n
 same_total n = omega arith
 
-self_nothing : (old : InclusiveCosts) (cell : Cell (List ℕ)) → with_self old (weighted [] cell) ≡ old
+self_nothing : (old : InclusiveCosts) (cell : CellRow (List ℕ)) → with_self old (weighted [] cell) ≡ old
 self_nothing old cell =
     ap (λ cost. with_self old (record cell { event = 0; cost = cost })) (none_of cell.cost) ∙ ap (λ total. record old { total = total }) (same_total old.total)
   where
     none_of : (cost : ℕ) → 0 * cost ≡ 0
     none_of cost = omega arith
 
-calls_nothing : (old : InclusiveCosts) (call : CallEdge (List ℕ) (List ℕ)) → with_outward old (weighted_calls [] call) ≡ old
+calls_nothing : (old : InclusiveCosts) (call : ArcRow (List ℕ) (List ℕ)) → with_outward old (weighted_calls [] call) ≡ old
 calls_nothing old call = go (is_one_function (weighted_calls [] call).caller (weighted_calls [] call).callee)
   where
     go : (b : Bool) → record old { sums = (fold with_row (by_function old) (rows_of (if b then [] else ((weighted_calls [] call).caller, 0) ∷ []))).sums } ≡ old
     go true = refl
     go false = refl
 
-cells_nothing : (old : InclusiveCosts) (cells : List (Cell (List ℕ))) (rest : List InclusiveRow) → fold with_inclusive old (self_rows [] cells ++ rest) ≡ fold with_inclusive old rest
+cells_nothing : (old : InclusiveCosts) (cells : List (CellRow (List ℕ))) (rest : List InclusiveRow) → fold with_inclusive old (self_rows [] cells ++ rest) ≡ fold with_inclusive old rest
 cells_nothing old [] rest = refl
 cells_nothing old (cell ∷ cells) rest = ap (λ costs. fold with_inclusive costs (self_rows [] cells ++ rest)) (self_nothing old cell) ∙ cells_nothing old cells rest
 
-edges_nothing : (old : InclusiveCosts) (edges : List (CallEdge (List ℕ) (List ℕ))) (rest : List InclusiveRow) → fold with_inclusive old (call_rows [] edges ++ rest) ≡ fold with_inclusive old rest
+edges_nothing : (old : InclusiveCosts) (edges : List (ArcRow (List ℕ) (List ℕ))) (rest : List InclusiveRow) → fold with_inclusive old (call_rows [] edges ++ rest) ≡ fold with_inclusive old rest
 edges_nothing old [] rest = refl
 edges_nothing old (call ∷ edges) rest = ap (λ costs. fold with_inclusive costs (call_rows [] edges ++ rest)) (calls_nothing old call) ∙ edges_nothing old edges rest
 
@@ -227,7 +227,7 @@ module _ (h : History) (t : Tables) (event : List ℕ) (represent : TablesRepres
       let same = sym (all_called f.format f.bytes is) in
       record { coefs = are; cells = λ passes k. told.cells passes k ∙ ap (self_sum passes k) same }
 
-  calls_of : (counts : List ℕ) (edges : List (CallEdge (List ℕ) (List ℕ))) → counts ≡ unwrap_or (counts_of event f) [] → kind_in f.format ≡ Callgrind → AreCallsOf f.number t edges
+  calls_of : (counts : List ℕ) (edges : List (ArcRow (List ℕ) (List ℕ))) → counts ≡ unwrap_or (counts_of event f) [] → kind_in f.format ≡ Callgrind → AreCallsOf f.number t edges
       → CallsRepresent (inclusive_records event f) (record { coefs = counts; calls = edges })
   calls_of counts edges are is whole =
       let same = sym (all_called f.format f.bytes is) in
@@ -317,7 +317,7 @@ record AddsFiles (event : List ℕ) (files : List File) (rows : List InclusiveRo
   own : StandForEach (map (inclusive_records event) files) cells
   edges : List EventEdges
   calls : CallsRepresentEach (map (inclusive_records event) files) edges
-  stacks : List (StackCount (List ℕ))
+  stacks : List (StackRow (List ℕ))
   seen : SameStacks stacks (flat_map (event_stacks event) files)
   parts : List InclusiveRow
   same : (old : InclusiveCosts) → fold with_inclusive old rows ≡ fold with_inclusive old parts
@@ -344,43 +344,43 @@ stacks_append (OfCalls c ∷ xs) ys = stacks_append xs ys
 stacks_append (OfStack r ∷ xs) ys = ap (λ l. r ∷ l) (stacks_append xs ys)
 
 module _ (counts : List ℕ) where
-  self_of_self : (cells : List (Cell (List ℕ))) (rest : List InclusiveRow) → self_in (self_rows counts cells ++ rest) ≡ map (weighted counts) cells ++ self_in rest
+  self_of_self : (cells : List (CellRow (List ℕ))) (rest : List InclusiveRow) → self_in (self_rows counts cells ++ rest) ≡ map (weighted counts) cells ++ self_in rest
   self_of_self [] rest = refl
   self_of_self (c ∷ cells) rest = ap (λ l. weighted counts c ∷ l) (self_of_self cells rest)
 
-  self_of_calls : (edges : List (CallEdge (List ℕ) (List ℕ))) (rest : List InclusiveRow) → self_in (call_rows counts edges ++ rest) ≡ self_in rest
+  self_of_calls : (edges : List (ArcRow (List ℕ) (List ℕ))) (rest : List InclusiveRow) → self_in (call_rows counts edges ++ rest) ≡ self_in rest
   self_of_calls [] rest = refl
   self_of_calls (a ∷ edges) rest = self_of_calls edges rest
 
-  calls_of_self : (cells : List (Cell (List ℕ))) (rest : List InclusiveRow) → calls_in (self_rows counts cells ++ rest) ≡ calls_in rest
+  calls_of_self : (cells : List (CellRow (List ℕ))) (rest : List InclusiveRow) → calls_in (self_rows counts cells ++ rest) ≡ calls_in rest
   calls_of_self [] rest = refl
   calls_of_self (c ∷ cells) rest = calls_of_self cells rest
 
-  calls_of_calls : (edges : List (CallEdge (List ℕ) (List ℕ))) (rest : List InclusiveRow) → calls_in (call_rows counts edges ++ rest) ≡ map (weighted_calls counts) edges ++ calls_in rest
+  calls_of_calls : (edges : List (ArcRow (List ℕ) (List ℕ))) (rest : List InclusiveRow) → calls_in (call_rows counts edges ++ rest) ≡ map (weighted_calls counts) edges ++ calls_in rest
   calls_of_calls [] rest = refl
   calls_of_calls (a ∷ edges) rest = ap (λ l. weighted_calls counts a ∷ l) (calls_of_calls edges rest)
 
-  stacks_of_self : (cells : List (Cell (List ℕ))) (rest : List InclusiveRow) → stacks_in (self_rows counts cells ++ rest) ≡ stacks_in rest
+  stacks_of_self : (cells : List (CellRow (List ℕ))) (rest : List InclusiveRow) → stacks_in (self_rows counts cells ++ rest) ≡ stacks_in rest
   stacks_of_self [] rest = refl
   stacks_of_self (c ∷ cells) rest = stacks_of_self cells rest
 
-  stacks_of_calls : (edges : List (CallEdge (List ℕ) (List ℕ))) (rest : List InclusiveRow) → stacks_in (call_rows counts edges ++ rest) ≡ stacks_in rest
+  stacks_of_calls : (edges : List (ArcRow (List ℕ) (List ℕ))) (rest : List InclusiveRow) → stacks_in (call_rows counts edges ++ rest) ≡ stacks_in rest
   stacks_of_calls [] rest = refl
   stacks_of_calls (a ∷ edges) rest = stacks_of_calls edges rest
 
-self_of_stacks : (stacks : List (StackCount (List ℕ))) → self_in (map OfStack stacks) ≡ []
+self_of_stacks : (stacks : List (StackRow (List ℕ))) → self_in (map OfStack stacks) ≡ []
 self_of_stacks [] = refl
 self_of_stacks (s ∷ stacks) = self_of_stacks stacks
 
-calls_of_stacks : (stacks : List (StackCount (List ℕ))) → calls_in (map OfStack stacks) ≡ []
+calls_of_stacks : (stacks : List (StackRow (List ℕ))) → calls_in (map OfStack stacks) ≡ []
 calls_of_stacks [] = refl
 calls_of_stacks (s ∷ stacks) = calls_of_stacks stacks
 
-stacks_of_stacks : (stacks : List (StackCount (List ℕ))) → stacks_in (map OfStack stacks) ≡ stacks
+stacks_of_stacks : (stacks : List (StackRow (List ℕ))) → stacks_in (map OfStack stacks) ≡ stacks
 stacks_of_stacks [] = refl
 stacks_of_stacks (s ∷ stacks) = ap (λ l. s ∷ l) (stacks_of_stacks stacks)
 
-module _ (cells : EventCells) (edges : EventEdges) (stacks : List (StackCount (List ℕ))) where
+module _ (cells : EventCells) (edges : EventEdges) (stacks : List (StackRow (List ℕ))) where
   self_by_kind : self_in (by_kind cells edges stacks) ≡ map (weighted cells.coefs) cells.cells
   self_by_kind =
       self_of_self cells.coefs cells.cells (call_rows edges.coefs edges.calls ++ map OfStack stacks)
@@ -400,7 +400,7 @@ module _ (cells : EventCells) (edges : EventEdges) (stacks : List (StackCount (L
       ∙ stacks_of_calls edges.coefs edges.calls (map OfStack stacks)
       ∙ stacks_of_stacks stacks
 
-count_append : (test : List ℕ → Bool) (xs ys : List (StackCount (List ℕ))) → stacks_count test (xs ++ ys) ≡ stacks_count test xs + stacks_count test ys
+count_append : (test : List ℕ → Bool) (xs ys : List (StackRow (List ℕ))) → stacks_count test (xs ++ ys) ≡ stacks_count test xs + stacks_count test ys
 count_append test [] ys = let n : ℕ = stacks_count test ys in let e : n ≡ 0 + n = omega arith in e
 count_append test (x ∷ xs) ys = let rest = count_append test xs ys in omega (arith, rest)
 
@@ -408,7 +408,7 @@ frames_append : (test : List ℕ → Bool) (xs ys : List Seen) → frames_sum te
 frames_append test [] ys = let n : ℕ = frames_sum test ys in let e : n ≡ 0 + n = omega arith in e
 frames_append test (x ∷ xs) ys = let rest = frames_append test xs ys in omega (arith, rest)
 
-both_seen : (xs ys : List (StackCount (List ℕ))) (seen more : List Seen) → SameStacks xs seen → SameStacks ys more → SameStacks (xs ++ ys) (seen ++ more)
+both_seen : (xs ys : List (StackRow (List ℕ))) (seen more : List Seen) → SameStacks xs seen → SameStacks ys more → SameStacks (xs ++ ys) (seen ++ more)
 both_seen xs ys seen more one two = λ test. count_append test xs ys ∙ ap₂ ◌+◌ (one test) (two test) ∙ sym (frames_append test seen more)
 
 one_more : (event : List ℕ) (f : File) (files : List File) (first later rows : List InclusiveRow) → rows ≡ first ++ later → AddsFile event f first → AddsFiles event files later → AddsFiles event (f ∷ files) rows

@@ -8,8 +8,8 @@ use Rattle.cg_formulas.specs.Formulas.{weighed}
 use Rattle.cost_rows.specs.Keys.{named_cmp}
 use Rattle.cost_rows.specs.Merging.{merge}
 use Rattle.cost_rows.specs.Sums.{Spot}
-use Rattle.cost_rows.specs.declared.rows.CallEdge.{CallEdge}
-use Rattle.cost_rows.specs.declared.rows.StackCount.{StackCount}
+use Rattle.cost_rows.specs.declared.rows.ArcRow.{ArcRow}
+use Rattle.cost_rows.specs.declared.rows.StackRow.{StackRow}
 use Rattle.report_texts.specs.Calls.{Calls, CallsOfFunction, asked, other, weighted_calls, with_calls}
 use Rattle.report_texts.specs.Functions.{is_one_function}
 use Rattle.report_texts.specs.Inclusive.{is_frame}
@@ -20,7 +20,7 @@ use Rattle.report_texts.specs.declared.pairs.Pair.{Pair}
 use Rattle.cost_reports.proofs.PairLemmas.{total_with}
 use Rattle.prof_books.specs.Book.{cell_held, no_name}
 use Rattle.plain_tables.specs.RunRows.{calls_in}
-use Rattle.plain_tables.specs.Tables.{CellRow, NameRow, Tables}
+use Rattle.plain_tables.specs.Tables.{StoredCell, NameRow, Tables}
 use Rattle.run_stores.specs.Names.{AreApart, IsNumberOf, named_call}
 use Rattle.run_stores.proofs.Numbers.{number_tells}
 use Rattle.run_stores.specs.Walks.{CallsFoldTo, cell_numbers}
@@ -102,26 +102,26 @@ module _ (names : List NameRow) (of : AskedFunction) (is : IsAsked names of) whe
   there : (object function : ℕ) → has_numbers of.numbers object function ≡ is_one_function f (named_function names object function)
   there object function = is object function ∙ turned (named_function names object function) f
 
-  kept_on : (side : CallSide) (known : Bool) (calls : List KeptCall) (counts : List ℕ) (r : CallEdge ℕ (List ℕ)) → let m : Kept = record { side = side; known = known; calls = calls } in
+  kept_on : (side : CallSide) (known : Bool) (calls : List KeptCall) (counts : List ℕ) (r : ArcRow ℕ (List ℕ)) → let m : Kept = record { side = side; known = known; calls = calls } in
       sums_named names f (with_kept of.numbers counts m r) ≡ with_calls (sums_named names f m) (weighted_calls counts (named_call names r))
   kept_on Callers known calls counts r = kept_where names f _ _ Callers calls (kept_call Callers (weighed counts r.costs) r) (there r.called_object r.called_function)
   kept_on Callees known calls counts r = kept_where names f _ _ Callees calls (kept_call Callees (weighed counts r.costs) r) (there r.object r.function)
 
-  kept_one : (counts : List ℕ) (m : Kept) (r : CallEdge ℕ (List ℕ)) → taken_named names f (with_kept of.numbers counts m r) ≡ with_call (taken_named names f m) (weighted_calls counts (named_call names r))
+  kept_one : (counts : List ℕ) (m : Kept) (r : ArcRow ℕ (List ℕ)) → taken_named names f (with_kept of.numbers counts m r) ≡ with_call (taken_named names f m) (weighted_calls counts (named_call names r))
   kept_one counts m r =
       let taken : Bool → CallsOfFunction → Taken = λ known calls. record { function = f; known = known; calls = calls } in
       ap₂ taken
       (ap₂ (λ a b. m.known || (a || b)) (is r.object r.function) (is r.called_object r.called_function))
       (kept_on m.side m.known m.calls counts r)
 
-  kept_all : (counts : List ℕ) (m : Kept) (rows : List (CallEdge ℕ (List ℕ)))
+  kept_all : (counts : List ℕ) (m : Kept) (rows : List (ArcRow ℕ (List ℕ)))
       → taken_named names f (fold (with_kept of.numbers counts) m rows) ≡ fold with_call (taken_named names f m) (map (weighted_calls counts) (map (named_call names) rows))
   kept_all counts m [] = refl
   kept_all counts m (r ∷ rows) =
       kept_all counts (with_kept of.numbers counts m r) rows
       ∙ ap (λ x. fold with_call x (map (weighted_calls counts) (map (named_call names) rows))) (kept_one counts m r)
 
-kept_rows : (numbers : FunctionNumbers) (counts : List ℕ) (m : Kept) (rows : List (CallEdge ℕ (List ℕ))) → let keeping : Kept → Keeping = λ k. record { numbers = numbers; counts = counts; kept = k } in
+kept_rows : (numbers : FunctionNumbers) (counts : List ℕ) (m : Kept) (rows : List (ArcRow ℕ (List ℕ))) → let keeping : Kept → Keeping = λ k. record { numbers = numbers; counts = counts; kept = k } in
     fold keeps_row (keeping m) rows ≡ keeping (fold (with_kept numbers counts) m rows)
 kept_rows numbers counts m [] = refl
 kept_rows numbers counts m (r ∷ rows) = kept_rows numbers counts (with_kept numbers counts m r) rows
@@ -164,7 +164,7 @@ seconds_more held c = go (is_one_function held.function (asked held.side c))
 
 -- ---- a function that is looked for
 
-pub cells_sought : (names : List NameRow) (of : AskedFunction) → IsAsked names of → (b : Bool) (lines : List CellRow)
+pub cells_sought : (names : List NameRow) (of : AskedFunction) → IsAsked names of → (b : Bool) (lines : List StoredCell)
     → fold with_cell_sought (of, b) (map cell_numbers lines) ≡ (of, b || is_in_cells (spot_asked of) (map (cell_held names) lines))
 cells_sought names of is b [] = ap (λ a. (of, a)) (or_none b)
 cells_sought names of is b (line ∷ lines) =
@@ -175,7 +175,7 @@ cells_sought names of is b (line ∷ lines) =
     ∙ ap (λ a. (of, a)) (or_then b here (is_in_cells f cells))
     ∙ ap (λ a. (of, b || (a || is_in_cells f cells))) (is line.object line.function)
 
-pub stacks_sought : (of : AskedFunction) (b : Bool) (stacks : List (StackCount (List ℕ))) → fold with_stack_sought (of, b) stacks ≡ (of, b || is_in_stacks (spot_asked of) stacks)
+pub stacks_sought : (of : AskedFunction) (b : Bool) (stacks : List (StackRow (List ℕ))) → fold with_stack_sought (of, b) stacks ≡ (of, b || is_in_stacks (spot_asked of) stacks)
 stacks_sought of b [] = ap (λ a. (of, a)) (or_none b)
 stacks_sought of b (r ∷ stacks) =
     let here = is_frame (spot_asked of) r.stack in

@@ -15,9 +15,9 @@ use Rattle.cost_rows.specs.Stacks.{counts_added}
 use Rattle.cost_rows.specs.Sums.{Spot}
 use Rattle.cost_rows.specs.declared.keys.Key.{Key}
 use Rattle.cost_rows.specs.declared.keys.Key.TheVariants.{Function}
-use Rattle.cost_rows.specs.declared.rows.CallEdge.{CallEdge}
-use Rattle.cost_rows.specs.declared.rows.Cell.{Cell}
-use Rattle.cost_rows.specs.declared.rows.StackCount.{StackCount}
+use Rattle.cost_rows.specs.declared.rows.ArcRow.{ArcRow}
+use Rattle.cost_rows.specs.declared.rows.CellRow.{CellRow}
+use Rattle.cost_rows.specs.declared.rows.StackRow.{StackRow}
 use Rattle.cost_rows.proofs.KeySumsLemmas.{sums-rows}
 use Rattle.report_texts.specs.Calls.{Calls, weighted_calls}
 use Rattle.report_texts.specs.Functions.{function_spot, is_one_function}
@@ -40,11 +40,11 @@ abbrev none : Sums
 none = record { key = Function; sums = [] }
 
 -- the sums of some rows, to which others are added
-abbrev and_rows : List (Spot × ℕ) → List (Cell (List ℕ)) → List (Spot × ℕ)
+abbrev and_rows : List (Spot × ℕ) → List (CellRow (List ℕ)) → List (Spot × ℕ)
 and_rows sums rows = (fold with_row (record { key = Function; sums = sums }) rows).sums
 
 -- are those of rows that cost as much at each function
-rows_more : (rows more all : List (Cell (List ℕ))) → ((passes : Spot → Bool) → cost_where Function passes all ≡ cost_where Function passes rows + cost_where Function passes more)
+rows_more : (rows more all : List (CellRow (List ℕ))) → ((passes : Spot → Bool) → cost_where Function passes all ≡ cost_where Function passes rows + cost_where Function passes more)
     → sums_by Function all ≡ and_rows (sums_by Function rows) more
 rows_more rows more all same =
     same_by_key Function all (rows ++ more) (λ passes. same passes ∙ sym (where_append Function passes rows more))
@@ -52,11 +52,11 @@ rows_more rows more all same =
     ∙ ap (λ key. (fold with_row (record { key = key; sums = sums_by Function rows }) more).sums) (keeps_key none rows)
 
 -- a cost that is added at its function, and not to what all cost by themselves
-abbrev with_cell : InclusiveCosts → Cell (List ℕ) → InclusiveCosts
+abbrev with_cell : InclusiveCosts → CellRow (List ℕ) → InclusiveCosts
 with_cell held row = record held { sums = and_rows held.sums (row ∷ []) }
 
 -- the rows of sums to which rows are added
-added_where : (passes : Spot → Bool) (sums : List (Spot × ℕ)) (more : List (Cell (List ℕ)))
+added_where : (passes : Spot → Bool) (sums : List (Spot × ℕ)) (more : List (CellRow (List ℕ)))
     → cost_where Function passes (rows_of (and_rows sums more)) ≡ cost_where Function passes (rows_of sums) + cost_where Function passes more
 added_where passes sums more =
     let at : Spot → Bool = λ p. passes (part_of Function p) in
@@ -66,11 +66,11 @@ added_where passes sums more =
 
 module _ (names : List NameRow) where
   -- the sums by number, with their names
-  abbrev cells_of : List (NumberPart × ℕ) → List (Cell (List ℕ))
+  abbrev cells_of : List (NumberPart × ℕ) → List (CellRow (List ℕ))
   cells_of numbers = map (named_cell names) (number_rows numbers)
 
   -- a row that is added by number
-  number_added : (numbers : List (NumberPart × ℕ)) (stacks : List (Spot × ℕ)) (row : Cell ℕ)
+  number_added : (numbers : List (NumberPart × ℕ)) (stacks : List (Spot × ℕ)) (row : CellRow ℕ)
       → sums_by Function (cells_of (with_function numbers row) ++ rows_of stacks) ≡ and_rows (sums_by Function (cells_of numbers ++ rows_of stacks)) (named_cell names row ∷ [])
   number_added numbers stacks row =
       let old = cells_of numbers in
@@ -83,7 +83,7 @@ module _ (names : List NameRow) where
       omega (arith, before, after, one))
 
   -- rows that are added to the other part
-  stacks_added : (numbers : List (NumberPart × ℕ)) (stacks : List (Spot × ℕ)) (more : List (Cell (List ℕ)))
+  stacks_added : (numbers : List (NumberPart × ℕ)) (stacks : List (Spot × ℕ)) (more : List (CellRow (List ℕ)))
       → sums_by Function (cells_of numbers ++ rows_of (and_rows stacks more)) ≡ and_rows (sums_by Function (cells_of numbers ++ rows_of stacks)) more
   stacks_added numbers stacks more =
       rows_more (cells_of numbers ++ rows_of stacks) more (cells_of numbers ++ rows_of (and_rows stacks more)) (λ passes.
@@ -102,19 +102,19 @@ module _ (names : List NameRow) where
 
   -- ---- both parts with a row more
 
-  pub self_more : (s : PartSums) (row : Cell ℕ) → costs_named names (with_self_costs s row) ≡ with_self (costs_named names s) (named_cell names row)
+  pub self_more : (s : PartSums) (row : CellRow ℕ) → costs_named names (with_self_costs s row) ≡ with_self (costs_named names s) (named_cell names row)
   self_more s row =
       let held : List (Spot × ℕ) → ℕ → InclusiveCosts = λ sums total. record { sums = sums; total = total } in
       let total : (s.self_cost + row.cost) + s.stacks.total ≡ (s.self_cost + s.stacks.total) + row.cost = omega arith in
       ap₂ held (number_added s.numbers s.stacks.sums row) total
 
   -- calls, at the caller
-  caller_more : (s : PartSums) (row : CallEdge ℕ (List ℕ)) (cost : ℕ) → costs_named names (with_calls s row cost) ≡ with_cell (costs_named names s) (named_cell names (caller_cell row cost))
+  caller_more : (s : PartSums) (row : ArcRow ℕ (List ℕ)) (cost : ℕ) → costs_named names (with_calls s row cost) ≡ with_cell (costs_named names s) (named_cell names (caller_cell row cost))
   caller_more s row cost =
       let held : List (Spot × ℕ) → InclusiveCosts = λ sums. record { sums = sums; total = s.self_cost + s.stacks.total } in
       ap held (number_added s.numbers s.stacks.sums (caller_cell row cost))
 
-  pub stack_more : (s : PartSums) (row : StackCount (List ℕ)) → costs_named names (with_stacks s row) ≡ with_stack (costs_named names s) row
+  pub stack_more : (s : PartSums) (row : StackRow (List ℕ)) → costs_named names (with_stacks s row) ≡ with_stack (costs_named names s) row
   stack_more s row =
       let held : List (Spot × ℕ) → ℕ → InclusiveCosts = λ sums total. record { sums = sums; total = total } in
       let total : s.self_cost + (s.stacks.total + row.count) ≡ (s.self_cost + s.stacks.total) + row.count = omega arith in
@@ -136,7 +136,7 @@ all_before Q part cost (e ∷ es) all = go (numbers_cmp part e.0) refl (all_befo
     go Equal is more all = (subst Q (sym (numbers_cmp_apart part e.0 is)) all.0, (all.0, all.1))
     go Greater is more all = let rest = more all.1 in (rest.0, (all.0, rest.1))
 
-module _ (P : ℕ → Type 0) (sums : List (NumberPart × ℕ)) (row : Cell ℕ) where
+module _ (P : ℕ → Type 0) (sums : List (NumberPart × ℕ)) (row : CellRow ℕ) where
   -- what is told with a row more, where it costs something
   told_with : AllByRecursion P (numbers_told Function (numbers_with (numbers_part Function row) row.cost sums)) → (P row.object × P row.function) × AllByRecursion P (numbers_told Function sums)
   told_with all =
@@ -163,10 +163,10 @@ module _ (P : ℕ → Type 0) (sums : List (NumberPart × ℕ)) (row : Cell ℕ)
       go true some all = absurd (let bad : true ≡ false = some in cc)
       go false some all = (told_with all).0
 
-pub self_held : (names : List NameRow) (s : PartSums) (row : Cell ℕ) → AreHeld names (with_self_costs s row) → AreHeld names s
+pub self_held : (names : List NameRow) (s : PartSums) (row : CellRow ℕ) → AreHeld names (with_self_costs s row) → AreHeld names s
 self_held names s row held = (told_before (IsHeld names) s.numbers row held.0, held.1)
 
-calls_held : (names : List NameRow) (s : PartSums) (row : CallEdge ℕ (List ℕ)) (cost : ℕ) → AreHeld names (with_calls s row cost) → AreHeld names s
+calls_held : (names : List NameRow) (s : PartSums) (row : ArcRow ℕ (List ℕ)) (cost : ℕ) → AreHeld names (with_calls s row cost) → AreHeld names s
 calls_held names s row cost held = (told_before (IsHeld names) s.numbers (caller_cell row cost) held.0, told_before (IsHeld names) s.called (called_cell row cost) held.1)
 
 -- ---- calls of the caller itself
@@ -178,14 +178,14 @@ same_number : (n : ℕ) → (n == n) ≡ true
 same_number n = grind (arith, nat_tests)
 
 module _ (names : List NameRow) where
-  abbrev caller : CallEdge ℕ (List ℕ) → Spot
+  abbrev caller : ArcRow ℕ (List ℕ) → Spot
   caller row = function_spot (name_of names row.object) (name_of names row.function)
 
-  abbrev callee : CallEdge ℕ (List ℕ) → Spot
+  abbrev callee : ArcRow ℕ (List ℕ) → Spot
   callee row = function_spot (name_of names row.called_object) (name_of names row.called_function)
 
   -- by number, and so by name
-  one_by_number : (row : CallEdge ℕ (List ℕ)) → is_of_itself row ≡ true → is_one_function (caller row) (callee row) ≡ true
+  one_by_number : (row : ArcRow ℕ (List ℕ)) → is_of_itself row ≡ true → is_one_function (caller row) (callee row) ≡ true
   one_by_number row is =
       let both = and_parts _ _ is in
       let object : row.object ≡ row.called_object = eqb-true row.object row.called_object both.0 in
@@ -194,7 +194,7 @@ module _ (names : List NameRow) where
       ∙ ap₂ ◌&&◌ (same_bytes (name_of names row.object)) (same_bytes (name_of names row.function))
 
   -- by name, and so by number, where names are told apart
-  one_by_name : (row : CallEdge ℕ (List ℕ)) → AreApart names → IsHeld names row.object × IsHeld names row.function → IsHeld names row.called_object × IsHeld names row.called_function
+  one_by_name : (row : ArcRow ℕ (List ℕ)) → AreApart names → IsHeld names row.object × IsHeld names row.function → IsHeld names row.called_object × IsHeld names row.called_function
       → is_one_function (caller row) (callee row) ≡ true → is_of_itself row ≡ true
   one_by_name row apart from to is =
       let both = and_parts _ _ is in
@@ -204,7 +204,7 @@ module _ (names : List NameRow) where
       ∙ ap₂ ◌&&◌ (same_number row.object) (same_number row.function)
 
 -- what is free costs nothing
-cell_nothing : (held : InclusiveCosts) (cell : Cell (List ℕ)) → nat_eq cell.cost 0 ≡ true → with_cell held cell ≡ held
+cell_nothing : (held : InclusiveCosts) (cell : CellRow (List ℕ)) → nat_eq cell.cost 0 ≡ true → with_cell held cell ≡ held
 cell_nothing held cell is_free =
     let sums : Bool → Sums = λ b. if b then by_function held else record { key = Function; sums = sums_with (part_of Function (place_of_row cell)) cell.cost held.sums } in
     let costs : Bool → InclusiveCosts = λ b. record held { sums = (sums b).sums } in
@@ -225,14 +225,14 @@ module _ (held : InclusiveCosts) (c : Calls) where
       go true = refl
       go false = rw is_free refl
 
-module _ (names : List NameRow) (apart : AreApart names) (s : PartSums) (counts : List ℕ) (row : CallEdge ℕ (List ℕ)) where
+module _ (names : List NameRow) (apart : AreApart names) (s : PartSums) (counts : List ℕ) (row : ArcRow ℕ (List ℕ)) where
   abbrev cost : ℕ
   cost = weighed counts row.costs
 
   abbrev calls : Calls
   calls = weighted_calls counts (named_call names row)
 
-  abbrev at_caller : Cell (List ℕ)
+  abbrev at_caller : CellRow (List ℕ)
   at_caller = named_cell names (caller_cell row cost)
 
   -- whether they are of the caller itself, names tell as numbers do

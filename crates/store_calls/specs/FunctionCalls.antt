@@ -3,9 +3,9 @@ use Rattle.std.specs.Prelude.{◌≡◌, ◌||◌, ℕ, Bool, false, if◌then�
 use Rattle.std.specs.List.{list_any}
 use Rattle.cost_rows.specs.Keys.{place_of_row}
 use Rattle.cost_rows.specs.Sums.{Spot}
-use Rattle.cost_rows.specs.declared.rows.CallEdge.{CallEdge}
-use Rattle.cost_rows.specs.declared.rows.Cell.{Cell}
-use Rattle.cost_rows.specs.declared.rows.StackCount.{StackCount}
+use Rattle.cost_rows.specs.declared.rows.ArcRow.{ArcRow}
+use Rattle.cost_rows.specs.declared.rows.CellRow.{CellRow}
+use Rattle.cost_rows.specs.declared.rows.StackRow.{StackRow}
 use Rattle.report_texts.specs.Calls.{Calls, CallsOfFunction, EventEdges, all_edges, call_report_of, call_report_text, calls_by, weighted_calls, with_calls}
 use Rattle.report_texts.specs.Functions.{function_spot, is_one_function}
 use Rattle.report_texts.specs.Inclusive.{is_frame}
@@ -41,7 +41,7 @@ AreEdgesOf runs t rows = ⊥
 -- the calls of a run were taken, one after another
 abbrev pub IsTakenFrom : Tables → Counted → Taken → Taken → Type 0
 IsTakenFrom t run old new =
-    (calls : List (CallEdge (List ℕ) (List ℕ))) × AreCallsOf run.number t calls × (new ≡ fold with_call old (map (weighted_calls (unwrap_or run.counts [])) calls))
+    (calls : List (ArcRow (List ℕ) (List ℕ))) × AreCallsOf run.number t calls × (new ≡ fold with_call old (map (weighted_calls (unwrap_or run.counts [])) calls))
 
 -- and those of runs
 abbrev pub AreTakenFrom : Tables → List Counted → Taken → Taken → Type 0
@@ -52,11 +52,11 @@ abbrev pub not_taken : CallSide → Spot → Taken
 not_taken side f = record { function = f; known = false; calls = record { side = side; function = f; sums = [] } }
 
 -- whether a function has self costs in a run, or a frame in its stacks
-abbrev pub is_in_cells : Spot → List (Cell (List ℕ)) → Bool
-is_in_cells f cells = list_any (λ (r : Cell (List ℕ)). is_one_function (place_of_row r) f) cells
+abbrev pub is_in_cells : Spot → List (CellRow (List ℕ)) → Bool
+is_in_cells f cells = list_any (λ (r : CellRow (List ℕ)). is_one_function (place_of_row r) f) cells
 
-abbrev pub is_in_stacks : Spot → List (StackCount (List ℕ)) → Bool
-is_in_stacks f stacks = list_any (λ (r : StackCount (List ℕ)). is_frame f r.stack) stacks
+abbrev pub is_in_stacks : Spot → List (StackRow (List ℕ)) → Bool
+is_in_stacks f stacks = list_any (λ (r : StackRow (List ℕ)). is_frame f r.stack) stacks
 
 abbrev pub is_in_rows : Tables → Spot → Counted → Bool
 is_in_rows t f run = is_in_cells f (cells_held run.number t) || is_in_stacks f (stacks_held run.number t)

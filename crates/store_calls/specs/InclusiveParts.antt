@@ -4,9 +4,9 @@ use Rattle.std.specs.List.{AllByRecursion}
 use Rattle.cg_formulas.specs.Formulas.{weighed}
 use Rattle.cost_rows.specs.KeySums.{rows_of, sums_by}
 use Rattle.cost_rows.specs.declared.keys.Key.TheVariants.{Function}
-use Rattle.cost_rows.specs.declared.rows.CallEdge.{CallEdge}
-use Rattle.cost_rows.specs.declared.rows.Cell.{Cell}
-use Rattle.cost_rows.specs.declared.rows.StackCount.{StackCount}
+use Rattle.cost_rows.specs.declared.rows.ArcRow.{ArcRow}
+use Rattle.cost_rows.specs.declared.rows.CellRow.{CellRow}
+use Rattle.cost_rows.specs.declared.rows.StackRow.{StackRow}
 use Rattle.report_texts.specs.Inclusive.{InclusiveCosts, no_costs, with_stack}
 use Rattle.prof_books.specs.Book.{IsHeld}
 use Rattle.plain_tables.specs.Tables.{Tables, NameRow}
@@ -47,27 +47,27 @@ pub record AreNamesFor (t : Tables) (s : PartSums) (names : List NameRow) : Type
 -- ---- rows by number
 
 -- a row's cost, at its function
-abbrev pub with_function : List (NumberPart × ℕ) → Cell ℕ → List (NumberPart × ℕ)
+abbrev pub with_function : List (NumberPart × ℕ) → CellRow ℕ → List (NumberPart × ℕ)
 with_function sums row = (with_number (record { key = Function; sums = sums }) row).sums
 
-abbrev pub with_self_costs : PartSums → Cell ℕ → PartSums
+abbrev pub with_self_costs : PartSums → CellRow ℕ → PartSums
 with_self_costs s row = record s { numbers = with_function s.numbers row; self_cost = s.self_cost + row.cost }
 
 -- calls that cost so much: at the caller, and at what is called
-abbrev pub caller_cell : CallEdge ℕ (List ℕ) → ℕ → Cell ℕ
+abbrev pub caller_cell : ArcRow ℕ (List ℕ) → ℕ → CellRow ℕ
 caller_cell r cost = record { object = r.object; file = r.file; function = r.function; line = r.line; thread = 0; event = 0; cost = cost }
 
-abbrev pub called_cell : CallEdge ℕ (List ℕ) → ℕ → Cell ℕ
+abbrev pub called_cell : ArcRow ℕ (List ℕ) → ℕ → CellRow ℕ
 called_cell r cost = record { object = r.called_object; file = r.called_file; function = r.called_function; line = 0; thread = 0; event = 0; cost = cost }
 
-abbrev pub with_calls : PartSums → CallEdge ℕ (List ℕ) → ℕ → PartSums
+abbrev pub with_calls : PartSums → ArcRow ℕ (List ℕ) → ℕ → PartSums
 with_calls s r cost = record s { numbers = with_function s.numbers (caller_cell r cost); called = with_function s.called (called_cell r cost) }
 
-abbrev pub with_stacks : PartSums → StackCount (List ℕ) → PartSums
+abbrev pub with_stacks : PartSums → StackRow (List ℕ) → PartSums
 with_stacks s row = record s { stacks = with_stack s.stacks row }
 
 -- whether calls are of the caller itself, by number
-abbrev pub is_of_itself : CallEdge ℕ (List ℕ) → Bool
+abbrev pub is_of_itself : ArcRow ℕ (List ℕ) → Bool
 is_of_itself r = (r.object == r.called_object) && (r.function == r.called_function)
 
 -- ---- one row, of a run whose columns count so often
@@ -77,14 +77,14 @@ pub record Counting : Type 0 where
   pub counts : List ℕ
   pub sums : PartSums
 
-abbrev pub weighted_number : List ℕ → Cell ℕ → Cell ℕ
+abbrev pub weighted_number : List ℕ → CellRow ℕ → CellRow ℕ
 weighted_number counts row = record row { event = 0; cost = slice_index counts row.event * row.cost }
 
-abbrev pub with_self_row : Counting → Cell ℕ → Counting
+abbrev pub with_self_row : Counting → CellRow ℕ → Counting
 with_self_row m row = record m { sums = with_self_costs m.sums (weighted_number m.counts row) }
 
-abbrev pub with_call_row : Counting → CallEdge ℕ (List ℕ) → Counting
+abbrev pub with_call_row : Counting → ArcRow ℕ (List ℕ) → Counting
 with_call_row m row = record m { sums = if is_of_itself row then m.sums else with_calls m.sums row (weighed m.counts row.costs) }
 
-abbrev pub with_stack_row : Counting → StackCount (List ℕ) → Counting
+abbrev pub with_stack_row : Counting → StackRow (List ℕ) → Counting
 with_stack_row m row = record m { sums = with_stacks m.sums row }

@@ -3,8 +3,8 @@ use Rattle.std.specs.Prelude.{◌≡◌, ℕ, List, [], ◌∷◌, ◌++◌, map
 use Rattle.std.specs.List.{AllByRecursion}
 use Rattle.std.specs.Option.{MatchOption}
 use Rattle.cost_rows.specs.declared.keys.Key.TheVariants.{Function}
-use Rattle.cost_rows.specs.declared.rows.CallEdge.{CallEdge}
-use Rattle.cost_rows.specs.declared.rows.Cell.{Cell}
+use Rattle.cost_rows.specs.declared.rows.ArcRow.{ArcRow}
+use Rattle.cost_rows.specs.declared.rows.CellRow.{CellRow}
 use Rattle.report_texts.specs.Calls.{weighted_calls}
 use Rattle.report_texts.specs.Costs.{weighted}
 use Rattle.report_texts.specs.Inclusive.{InclusiveCosts, InclusiveRow, OfSelf, OfCalls, OfStack, inclusive_report, inclusive_text, no_costs, with_inclusive}
@@ -26,16 +26,16 @@ use Rattle.store_calls.specs.InclusiveParts.{PartSums, AreHeld, costs_named}
 
 -- ---- the rows of runs
 
-abbrev pub self_rows : List ℕ → List (Cell (List ℕ)) → List InclusiveRow
+abbrev pub self_rows : List ℕ → List (CellRow (List ℕ)) → List InclusiveRow
 self_rows counts cells = map (λ row. OfSelf (weighted counts row)) cells
 
-abbrev pub call_rows : List ℕ → List (CallEdge (List ℕ) (List ℕ)) → List InclusiveRow
+abbrev pub call_rows : List ℕ → List (ArcRow (List ℕ) (List ℕ)) → List InclusiveRow
 call_rows counts calls = map (λ row. OfCalls (weighted_calls counts row)) calls
 
 -- self costs and calls of a Callgrind run, and the stacks of a folded one
 abbrev pub AreRowsOfKind : Kind → Tables → ℕ → List ℕ → List InclusiveRow → Type 0
 AreRowsOfKind Callgrind t number counts rows =
-    (calls : List (CallEdge (List ℕ) (List ℕ))) × AreCallsOf number t calls × (rows ≡ self_rows counts (cells_held number t) ++ call_rows counts calls)
+    (calls : List (ArcRow (List ℕ) (List ℕ))) × AreCallsOf number t calls × (rows ≡ self_rows counts (cells_held number t) ++ call_rows counts calls)
 AreRowsOfKind Folded t number counts rows = rows ≡ map OfStack (stacks_held number t)
 
 -- by the kind that the tables tell

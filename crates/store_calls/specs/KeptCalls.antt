@@ -2,9 +2,9 @@
 use Rattle.std.specs.Prelude.{◌≡◌, ◌||◌, ◌&&◌, ℕ, Bool, if◌then◌else◌, List, [], ◌∷◌, ◌++◌, map}
 use Rattle.cg_formulas.specs.Formulas.{weighed}
 use Rattle.cost_rows.specs.Sums.{Spot}
-use Rattle.cost_rows.specs.declared.rows.CallEdge.{CallEdge}
-use Rattle.cost_rows.specs.declared.rows.Cell.{Cell}
-use Rattle.cost_rows.specs.declared.rows.StackCount.{StackCount}
+use Rattle.cost_rows.specs.declared.rows.ArcRow.{ArcRow}
+use Rattle.cost_rows.specs.declared.rows.CellRow.{CellRow}
+use Rattle.cost_rows.specs.declared.rows.StackRow.{StackRow}
 use Rattle.report_texts.specs.Calls.{Calls, CallsOfFunction}
 use Rattle.report_texts.specs.Functions.{function_spot, is_one_function}
 use Rattle.report_texts.specs.Inclusive.{is_frame}
@@ -38,25 +38,25 @@ abbrev pub IsAsked : List NameRow → AskedFunction → Type 0
 IsAsked names asked = (object function : ℕ) → has_numbers asked.numbers object function ≡ is_one_function (named_function names object function) (spot_asked asked)
 
 -- whether it was found so far, in cells by its numbers and in stacks by its names
-abbrev pub with_cell_sought : AskedFunction × Bool → Cell ℕ → AskedFunction × Bool
+abbrev pub with_cell_sought : AskedFunction × Bool → CellRow ℕ → AskedFunction × Bool
 with_cell_sought m row = (m.0, m.1 || has_numbers m.0.numbers row.object row.function)
 
-abbrev pub with_stack_sought : AskedFunction × Bool → StackCount (List ℕ) → AskedFunction × Bool
+abbrev pub with_stack_sought : AskedFunction × Bool → StackRow (List ℕ) → AskedFunction × Bool
 with_stack_sought m row = (m.0, m.1 || is_frame (spot_asked m.0) row.stack)
 
 -- ---- rows of calls
 
 -- whether calls are from the function or to it
-abbrev pub number_touches : FunctionNumbers → CallEdge ℕ (List ℕ) → Bool
+abbrev pub number_touches : FunctionNumbers → ArcRow ℕ (List ℕ) → Bool
 number_touches f r = has_numbers f r.object r.function || has_numbers f r.called_object r.called_function
 
 -- whether they are on the side that is asked
-abbrev pub is_kept : CallSide → FunctionNumbers → CallEdge ℕ (List ℕ) → Bool
+abbrev pub is_kept : CallSide → FunctionNumbers → ArcRow ℕ (List ℕ) → Bool
 is_kept Callers f r = has_numbers f r.called_object r.called_function
 is_kept Callees f r = has_numbers f r.object r.function
 
 -- the function on the other side, and what they sum to
-abbrev pub kept_call : CallSide → ℕ → CallEdge ℕ (List ℕ) → KeptCall
+abbrev pub kept_call : CallSide → ℕ → ArcRow ℕ (List ℕ) → KeptCall
 kept_call Callers cost r = record { object = r.object; function = r.function; sum = record { first = cost; second = r.count } }
 kept_call Callees cost r = record { object = r.called_object; function = r.called_function; sum = record { first = cost; second = r.count } }
 
@@ -72,7 +72,7 @@ abbrev pub kept_of : KeptCalls → Kept
 kept_of c = record { side = c.side; known = c.known; calls = c.rows.items }
 
 -- a row of a run whose columns count so often
-abbrev pub with_kept : FunctionNumbers → List ℕ → Kept → CallEdge ℕ (List ℕ) → Kept
+abbrev pub with_kept : FunctionNumbers → List ℕ → Kept → ArcRow ℕ (List ℕ) → Kept
 with_kept f counts m r = record m {
   known = m.known || number_touches f r;
   calls = if is_kept m.side f r then m.calls ++ kept_call m.side (weighed counts r.costs) r ∷ [] else m.calls;
@@ -84,7 +84,7 @@ pub record Keeping : Type 0 where
   pub counts : List ℕ
   pub kept : Kept
 
-abbrev pub keeps_row : Keeping → CallEdge ℕ (List ℕ) → Keeping
+abbrev pub keeps_row : Keeping → ArcRow ℕ (List ℕ) → Keeping
 keeps_row m r = record m { kept = with_kept m.numbers m.counts m.kept r }
 
 -- ---- with names in place

@@ -5,7 +5,7 @@ ghost use Rattle.store_calls.specs.InclusiveParts.{is_of_itself};
 use crate::inclusive_parts::InclusiveParts;
 use crate::weights::{most_of, weighed_within};
 use cg_text::ListVec;
-use cost_rows::{CallEdge, Cell, StackCount};
+use cost_rows::{ArcRow, CellRow, StackRow};
 use run_stores::{CallSink, CellSink, StackRowSink, StoreError};
 use selected_runs::{cost_within, is_within, times_of};
 
@@ -26,7 +26,7 @@ impl CellSink for InclusiveRows<'_> {
 
     ghost step = { with_self_row };
 
-    fn take(&mut self, row: &Cell<u32>) -> Result<(), StoreError> {
+    fn take(&mut self, row: &CellRow<u32>) -> Result<(), StoreError> {
         let times = times_of(self.counts, row.event);
         let Some(cost) = cost_within(self.parts.numbers.total(), times, row.cost) else {
             return Err(StoreError::Store);
@@ -34,7 +34,7 @@ impl CellSink for InclusiveRows<'_> {
         if !is_within(self.parts.self_cost, cost) {
             return Err(StoreError::Store);
         }
-        self.parts.add_self(&Cell {
+        self.parts.add_self(&CellRow {
             object: row.object,
             file: row.file,
             function: row.function,
@@ -49,7 +49,7 @@ impl CellSink for InclusiveRows<'_> {
 
 /// Whether calls are of the caller itself. Of the names that a store holds each has one number, so none is looked
 /// at: that those of calls are held is asked when all rows were added.
-fn is_of_itself(row: &CallEdge<u32, ListVec<u128>>) -> bool
+fn is_of_itself(row: &ArcRow<u32, ListVec<u128>>) -> bool
     ensures { result ≡ is_of_itself row.now }
 {
     row.object == row.called_object && row.function == row.called_function
@@ -64,7 +64,7 @@ impl CallSink for InclusiveRows<'_> {
 
     ghost step = { with_call_row };
 
-    fn take(&mut self, row: CallEdge<u32, ListVec<u128>>) -> Result<(), StoreError> {
+    fn take(&mut self, row: ArcRow<u32, ListVec<u128>>) -> Result<(), StoreError> {
         if is_of_itself(&row) {
             return Ok(());
         }
@@ -88,7 +88,7 @@ impl StackRowSink for InclusiveRows<'_> {
 
     ghost step = { with_stack_row };
 
-    fn take(&mut self, row: &StackCount<&[u8]>) -> Result<(), StoreError> {
+    fn take(&mut self, row: &StackRow<&[u8]>) -> Result<(), StoreError> {
         let Some(most) = most_of(row.stack.len(), row.count) else {
             return Err(StoreError::Store);
         };

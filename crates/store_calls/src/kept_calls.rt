@@ -6,21 +6,21 @@ use crate::asked_functions::FunctionNumbers;
 use crate::kept_rows::{KeptCall, KeptCalls};
 use crate::weights::weighed_within;
 use cg_text::ListVec;
-use cost_rows::CallEdge;
+use cost_rows::ArcRow;
 use report_texts::{CallSide, Pair};
 use run_stores::{CallSink, StoreError};
 use selected_runs::is_within;
 use std::alloc::Global;
 
 /// Whether calls are from the function or to it.
-fn touches(numbers: &FunctionNumbers, row: &CallEdge<u32, ListVec<u128>>) -> bool
+fn touches(numbers: &FunctionNumbers, row: &ArcRow<u32, ListVec<u128>>) -> bool
     ensures { result ≡ number_touches numbers.now row.now }
 {
     numbers.are(row.object, row.function) || numbers.are(row.called_object, row.called_function)
 }
 
 /// Whether calls are those on the side that is asked.
-fn is_kept(side: CallSide, numbers: &FunctionNumbers, row: &CallEdge<u32, ListVec<u128>>) -> bool
+fn is_kept(side: CallSide, numbers: &FunctionNumbers, row: &ArcRow<u32, ListVec<u128>>) -> bool
     ensures { result ≡ is_kept side numbers.now row.now }
 {
     match side {
@@ -30,7 +30,7 @@ fn is_kept(side: CallSide, numbers: &FunctionNumbers, row: &CallEdge<u32, ListVe
 }
 
 /// What is kept of calls that cost so much in the event.
-fn kept_call(side: CallSide, row: &CallEdge<u32, ListVec<u128>>, cost: u128) -> KeptCall
+fn kept_call(side: CallSide, row: &ArcRow<u32, ListVec<u128>>, cost: u128) -> KeptCall
     ensures { result ≡ kept_call side cost row.now }
 {
     let (object, function) = match side {
@@ -105,7 +105,7 @@ impl CallSink for KeepsCalls<'_> {
 
     ghost step = { keeps_row };
 
-    fn take(&mut self, row: CallEdge<u32, ListVec<u128>>) -> Result<(), StoreError> {
+    fn take(&mut self, row: ArcRow<u32, ListVec<u128>>) -> Result<(), StoreError> {
         self.calls.known = self.calls.known || touches(&self.numbers, &row);
         if !is_kept(self.calls.side, &self.numbers, &row) {
             return Ok(());

@@ -10,7 +10,7 @@ ghost use Rattle.store_calls.specs.KeptCalls.{spot_asked, IsAsked};
 
 use crate::asked_functions::AskedFunction;
 use cost_reports::is_frame;
-use cost_rows::{Cell, StackCount};
+use cost_rows::{CellRow, StackRow};
 use run_stores::{CellSink, RunStore, StackRowSink, StoreError};
 use selected_runs::{Counted, RunFold, fold_runs};
 
@@ -32,7 +32,7 @@ impl CellSink for Sought<'_> {
 
     ghost step = { with_cell_sought };
 
-    fn take(&mut self, row: &Cell<u32>) -> Result<(), StoreError> {
+    fn take(&mut self, row: &CellRow<u32>) -> Result<(), StoreError> {
         self.found = self.found || self.asked.numbers.are(row.object, row.function);
         Ok(())
     }
@@ -49,7 +49,7 @@ impl StackRowSink for Sought<'_> {
 
     ghost step = { with_stack_sought };
 
-    fn take(&mut self, row: &StackCount<&[u8]>) -> Result<(), StoreError> {
+    fn take(&mut self, row: &StackRow<&[u8]>) -> Result<(), StoreError> {
         self.found = self.found || is_frame(row.stack, self.asked.object, self.asked.name);
         Ok(())
     }

@@ -8,7 +8,7 @@ ghost use Rattle.store_calls.specs.KeptCalls.{call_numbers, calls_named, kept_of
 use crate::asked_functions::AskedFunction;
 use crate::kept_rows::{KeptCall, KeptCalls};
 use cost_reports::CallSums;
-use cost_rows::CallEdge;
+use cost_rows::ArcRow;
 use named_rows::held_name;
 use report_texts::CallSide;
 use run_stores::{NameTable, StoreError};
@@ -32,7 +32,7 @@ fn named_call<'n, N: NameTable>(
     side: CallSide,
     asked: AskedFunction<'n>,
     call: &KeptCall,
-) -> Result<CallEdge<&'n [u8], u128>, StoreError>
+) -> Result<ArcRow<&'n [u8], u128>, StoreError>
     ensures calls { IfOk result (λ row. (all : List NameRow) → AreOf all (N.name_rows names.now)
         → calls_of_row row ≡ calls_named all side (spot_asked asked.entry) call.now) }
     ensures sum { IfOk result (λ row. (row.costs ≡ call.now.sum.first) × (row.count ≡ call.now.sum.second)) }
@@ -47,7 +47,7 @@ fn named_call<'n, N: NameTable>(
         CallSide::Callers => (other, function),
         CallSide::Callees => (function, other),
     };
-    Ok(CallEdge {
+    Ok(ArcRow {
         object: caller.0,
         file,
         function: caller.1,

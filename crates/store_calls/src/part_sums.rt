@@ -14,7 +14,7 @@ ghost use Rattle.store_calls.specs.InclusiveParts.{costs_named, none_added, sums
 use crate::inclusive_parts::InclusiveParts;
 use cg_text::ListVec;
 use cost_reports::{FrameSums, InclusiveSums};
-use cost_rows::{CallEdge, Cell, Key, StackCount};
+use cost_rows::{ArcRow, CellRow, Key, StackRow};
 use number_sums::NumberSums;
 use run_stores::{NameTable, StoreError};
 use selected_runs::is_within;
@@ -34,7 +34,7 @@ impl InclusiveParts {
     }
 
     /// Adds a row of self costs.
-    pub fn add_self(&mut self, row: &Cell<u32>) -> Result<(), AllocError>
+    pub fn add_self(&mut self, row: &CellRow<u32>) -> Result<(), AllocError>
         requires small { AreBelow (numbers_total self.old.numbers.sums + row.now.cost) (self.old.self_cost + row.now.cost) }
         ensures { OnOk result (sums_in self.new ≡ with_self_costs (sums_in self.old) row.now) }
     {
@@ -46,13 +46,13 @@ impl InclusiveParts {
     /// Adds calls to another function, which cost so much.
     pub fn add_outward(
         &mut self,
-        row: &CallEdge<u32, ListVec<u128>>,
+        row: &ArcRow<u32, ListVec<u128>>,
         cost: u128,
     ) -> Result<(), AllocError>
         requires small { numbers_total self.old.numbers.sums + cost < 2 ^ 112 }
         ensures { OnOk result (sums_in self.new ≡ with_calls (sums_in self.old) row.now cost) }
     {
-        self.numbers.add(&Cell {
+        self.numbers.add(&CellRow {
             object: row.object,
             file: row.file,
             function: row.function,
@@ -61,7 +61,7 @@ impl InclusiveParts {
             event: 0,
             cost,
         })?;
-        self.called.add(&Cell {
+        self.called.add(&CellRow {
             object: row.called_object,
             file: row.called_file,
             function: row.called_function,
@@ -74,7 +74,7 @@ impl InclusiveParts {
     }
 
     /// Adds a row of stacks.
-    pub fn add_stack(&mut self, row: &StackCount<&[u8]>) -> Result<(), AllocError>
+    pub fn add_stack(&mut self, row: &StackRow<&[u8]>) -> Result<(), AllocError>
         requires sum { total_of self.old.stacks.sums + (length row.now.stack.now + 1) * row.now.count < 2 ^ 112 }
         requires total { self.old.stacks.total + row.now.count < 2 ^ 112 }
         ensures { OnOk result (sums_in self.new ≡ with_stacks (sums_in self.old) (plain_stack row.now)) }

@@ -12,10 +12,10 @@ use Rattle.cost_exports.proofs.KnownLemmas.{known-records}
 use Rattle.cost_exports.proofs.LineLemmas.{annotation-records}
 use Rattle.report_texts.specs.Costs.{all_rows, weighted}
 use Rattle.cost_rows.specs.Walks.{HaveCosts}
-use Rattle.cost_rows.specs.declared.rows.Cell.{Cell}
+use Rattle.cost_rows.specs.declared.rows.CellRow.{CellRow}
 use Rattle.prof_books.specs.Book.{cell_held, cells_held, name_of, no_name}
 use Rattle.plain_tables.specs.RunRows.{cells_in}
-use Rattle.plain_tables.specs.Tables.{Tables, CellRow}
+use Rattle.plain_tables.specs.Tables.{Tables, StoredCell}
 use Rattle.run_stores.specs.Names.{AreApart, IsNumberOf, is_number}
 use Rattle.run_stores.specs.Walks.{cell_numbers}
 use Rattle.run_stores.proofs.Numbers.{number_tells}
@@ -43,10 +43,10 @@ use Rattle.store_exports.specs.Annotated.{IsAnnotated, annotated_if_known, annot
 
 -- ---- cells that are added
 
-abbrev pub taken : Option ℕ × List ℕ × List ℕ × FileCosts → Cell ℕ → Option ℕ × List ℕ × List ℕ × FileCosts
+abbrev pub taken : Option ℕ × List ℕ × List ℕ × FileCosts → CellRow ℕ → Option ℕ × List ℕ × List ℕ × FileCosts
 taken m row = (m.0, m.1, m.2, with_numbered m.0 m.1 m.2 m.3 row)
 
-pub lines_taken : (number : Option ℕ) (name counts : List ℕ) (costs : FileCosts) (cells : List (Cell ℕ))
+pub lines_taken : (number : Option ℕ) (name counts : List ℕ) (costs : FileCosts) (cells : List (CellRow ℕ))
     → fold taken (number, name, counts, costs) cells ≡ (number, name, counts, fold (with_numbered number name counts) costs cells)
 lines_taken number name counts costs [] = refl
 lines_taken number name counts costs (cell ∷ cells) = lines_taken number name counts (with_numbered number name counts costs cell) cells
@@ -60,7 +60,7 @@ each_added : (step : FileCosts → Counted → FileCosts) (runs : List Counted) 
 each_added step [] before after all = all
 each_added step (run ∷ runs) before after all = each_added step runs all.0 after all.2 ∙ ap (λ m. fold step m runs) all.1
 
-file_stays : (costs : FileCosts) (rows : List (Cell (List ℕ))) → (fold with_line costs rows).file ≡ costs.file
+file_stays : (costs : FileCosts) (rows : List (CellRow (List ℕ))) → (fold with_line costs rows).file ≡ costs.file
 file_stays costs [] = refl
 file_stays costs (row ∷ rows) = file_stays (with_line costs row) rows ∙ one (bytes_eq row.file costs.file)
   where
@@ -76,7 +76,7 @@ is_a_name name fit is = let low : 256 < 256 = subst (λ (n : List ℕ). get_or n
 
 module _ (t : Tables) (number : Option ℕ) (name : List ℕ) (tells : (m : ℕ) → is_number number m ≡ bytes_eq (name_of t.names m) name) where
   -- a cell of another file is none by its number, and adds nothing by its name
-  one_by_number : (counts : List ℕ) (costs : FileCosts) (c : CellRow) → costs.file ≡ name → with_numbered number name counts costs (cell_numbers c) ≡ with_line costs (weighted counts (cell_held t.names c))
+  one_by_number : (counts : List ℕ) (costs : FileCosts) (c : StoredCell) → costs.file ≡ name → with_numbered number name counts costs (cell_numbers c) ≡ with_line costs (weighted counts (cell_held t.names c))
   one_by_number counts costs c of =
       let more : FileCosts = record { file = costs.file; known = true; costs = with_amount nat_cmp costs.costs c.line (slice_index counts c.event * c.cost) } in
       ap (λ b. if b then (if bytes_eq name costs.file then more else costs) else costs) (tells c.file)
@@ -87,7 +87,7 @@ module _ (t : Tables) (number : Option ℕ) (name : List ℕ) (tells : (m : ℕ)
       go true same more less own = ap (λ b. if b then more else less) own
       go false same more less own = refl
 
-  cells_by_number : (counts : List ℕ) (costs : FileCosts) (cells : List CellRow) → costs.file ≡ name
+  cells_by_number : (counts : List ℕ) (costs : FileCosts) (cells : List StoredCell) → costs.file ≡ name
       → fold (with_numbered number name counts) costs (map cell_numbers cells) ≡ fold with_line costs (map (weighted counts) (map (cell_held t.names) cells))
   cells_by_number counts costs [] of = refl
   cells_by_number counts costs (c ∷ cells) of =

@@ -5,7 +5,7 @@ use Rattle.plain_tables.specs.Lists.{Has}
 use Rattle.report_texts.specs.Csv.{EventSpot, NamedCells, NamesStandForEach, csv_text, with_cell_in, with_cells}
 use Rattle.cost_exports.proofs.ColumnLemmas.{csv-records}
 use Rattle.cost_rows.specs.WalkSums.{rows_cost}
-use Rattle.cost_rows.specs.declared.rows.Cell.{Cell}
+use Rattle.cost_rows.specs.declared.rows.CellRow.{CellRow}
 use Rattle.plain_tables.specs.Tables.{Tables}
 use Rattle.histories.specs.Exports.{csv_of_files, named_records}
 use Rattle.histories.specs.History.{History, File, held}
@@ -28,10 +28,10 @@ use Rattle.store_exports.specs.CsvRuns.{AddsRun, AreNamedRuns, IsCsv, IsCsvText}
 
 -- ---- cells that are added
 
-abbrev pub taken : List (List ℕ) × List (EventSpot × ℕ) → Cell (List ℕ) → List (List ℕ) × List (EventSpot × ℕ)
+abbrev pub taken : List (List ℕ) × List (EventSpot × ℕ) → CellRow (List ℕ) → List (List ℕ) × List (EventSpot × ℕ)
 taken m row = (m.0, with_cell_in m.0 m.1 row)
 
-pub cells_taken : (events : List (List ℕ)) (sums : List (EventSpot × ℕ)) (cells : List (Cell (List ℕ))) → fold taken (events, sums) cells ≡ (events, fold (with_cell_in events) sums cells)
+pub cells_taken : (events : List (List ℕ)) (sums : List (EventSpot × ℕ)) (cells : List (CellRow (List ℕ))) → fold taken (events, sums) cells ≡ (events, fold (with_cell_in events) sums cells)
 cells_taken events sums [] = refl
 cells_taken events sums (cell ∷ cells) = cells_taken events (with_cell_in events sums cell) cells
 

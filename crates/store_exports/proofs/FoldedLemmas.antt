@@ -9,7 +9,7 @@ use Rattle.cost_exports.proofs.StackLemmas.{same_folded}
 use Rattle.report_texts.specs.Inclusive.{SameStacks}
 use Rattle.cost_rows.specs.StackSums.{frames_sum}
 use Rattle.cost_rows.specs.WalkSums.{stacks_count}
-use Rattle.cost_rows.specs.declared.rows.StackCount.{StackCount}
+use Rattle.cost_rows.specs.declared.rows.StackRow.{StackRow}
 use Rattle.prof_books.specs.Book.{stacks_held}
 use Rattle.plain_tables.specs.Tables.{Tables}
 use Rattle.profile_records.specs.Stacks.{Seen}
@@ -42,7 +42,7 @@ stacks_added sums t (number ∷ numbers) before after all =
 
 -- ---- from runs to files
 
-count_append : (test : List ℕ → Bool) (xs ys : List (StackCount (List ℕ))) → stacks_count test (xs ++ ys) ≡ stacks_count test xs + stacks_count test ys
+count_append : (test : List ℕ → Bool) (xs ys : List (StackRow (List ℕ))) → stacks_count test (xs ++ ys) ≡ stacks_count test xs + stacks_count test ys
 count_append test [] ys = let n : ℕ = stacks_count test ys in let e : n ≡ 0 + n = omega arith in e
 count_append test (x ∷ xs) ys = let rest = count_append test xs ys in omega (arith, rest)
 

@@ -2,7 +2,7 @@
 use Rattle.std.specs.Prelude.{◌≡◌, ℕ, if◌then◌else◌, List, [], map, fold, Option, Some, None, unwrap_or}
 use Rattle.report_texts.specs.Annotations.{FileCosts, annotation_of, annotation_text, no_lines, with_line}
 use Rattle.report_texts.specs.Costs.{all_rows, weighted}
-use Rattle.cost_rows.specs.declared.rows.Cell.{Cell}
+use Rattle.cost_rows.specs.declared.rows.CellRow.{CellRow}
 use Rattle.prof_books.specs.Book.{cells_held}
 use Rattle.plain_tables.specs.RunRows.{cells_in}
 use Rattle.plain_tables.specs.Tables.{Tables}
@@ -20,11 +20,11 @@ abbrev pub lines_from : Tables → FileCosts → Counted → FileCosts
 lines_from t costs run = fold with_line costs (map (weighted (unwrap_or run.counts [])) (cells_held run.number t))
 
 -- a cell of a file: of its names only this one counts
-abbrev pub file_cell : List ℕ → Cell ℕ → Cell (List ℕ)
+abbrev pub file_cell : List ℕ → CellRow ℕ → CellRow (List ℕ)
 file_cell name r = record { object = []; file = name; function = []; line = r.line; thread = r.thread; event = r.event; cost = r.cost }
 
 -- a cell is added if its file has this number, that of the name
-abbrev pub with_numbered : Option ℕ → List ℕ → List ℕ → FileCosts → Cell ℕ → FileCosts
+abbrev pub with_numbered : Option ℕ → List ℕ → List ℕ → FileCosts → CellRow ℕ → FileCosts
 with_numbered number name counts costs r = if is_number number r.file then with_line costs (weighted counts (file_cell name r)) else costs
 
 -- and those of a run

@@ -1,7 +1,7 @@
 -- Stacks with their counts over runs of the tables.
 use Rattle.std.specs.Prelude.{◌≡◌, ℕ, List, fold, flat_map}
 use Rattle.report_texts.specs.Folded.{folded_of_rows, folded_text, with_stack}
-use Rattle.cost_rows.specs.declared.rows.StackCount.{StackCount}
+use Rattle.cost_rows.specs.declared.rows.StackRow.{StackRow}
 use Rattle.prof_books.specs.Book.{stacks_held}
 use Rattle.plain_tables.specs.Tables.{Tables}
 use Rattle.histories.specs.declared.answers.Answer.{Answer}
@@ -11,7 +11,7 @@ use Rattle.store_histories.specs.FromTables.{AnswersBy}
 use Rattle.selected_runs.specs.Selected.{AreSelectedIn}
 
 -- the stacks of runs, one run after another
-abbrev pub stacks_over : Tables → List ℕ → List (StackCount (List ℕ))
+abbrev pub stacks_over : Tables → List ℕ → List (StackRow (List ℕ))
 stacks_over t numbers = flat_map (λ n. stacks_held n t) numbers
 
 -- the stacks of a run are added

@@ -7,7 +7,7 @@ ghost use Rattle.store_exports.specs.Annotated.{file_cell};
 
 use cg_text::ListVec;
 use cost_exports::{CellSums, LineSums, StackSums};
-use cost_rows::{Cell, StackCount};
+use cost_rows::{CellRow, StackRow};
 use named_rows::NamedCellSink;
 use run_stores::{CellSink, StackRowSink, StoreError};
 use selected_runs::{is_within, weighted_within};
@@ -23,10 +23,10 @@ fn is_number(number: Option<u32>, other: u32) -> bool
 }
 
 /// A cell of the file of this name. Nothing looks at its other names.
-fn file_cell<'a>(name: &'a [u8], row: &Cell<u32>) -> Cell<&'a [u8]>
+fn file_cell<'a>(name: &'a [u8], row: &CellRow<u32>) -> CellRow<&'a [u8]>
     ensures { plain_cell result ≡ file_cell name.now row.now }
 {
-    Cell {
+    CellRow {
         object: &[],
         file: name,
         function: &[],
@@ -58,7 +58,7 @@ impl CellSink for LineRows<'_> {
 
     ghost step = { λ m row. (m.0, m.1, m.2, with_numbered m.0 m.1 m.2 m.3 row) };
 
-    fn take(&mut self, row: &Cell<u32>) -> Result<(), StoreError> {
+    fn take(&mut self, row: &CellRow<u32>) -> Result<(), StoreError> {
         if !is_number(self.number, row.file) {
             return Ok(());
         }
@@ -88,7 +88,7 @@ impl NamedCellSink for NamedRows<'_> {
 
     ghost step = { λ m row. (m.0, with_cell_in m.0 m.1 row) };
 
-    fn take(&mut self, row: &Cell<&[u8]>) -> Result<(), StoreError> {
+    fn take(&mut self, row: &CellRow<&[u8]>) -> Result<(), StoreError> {
         let Some(event) = self.events.get(row.event) else {
             return Ok(());
         };
@@ -116,7 +116,7 @@ impl StackRowSink for StackRows {
 
     ghost step = { with_stack };
 
-    fn take(&mut self, row: &StackCount<&[u8]>) -> Result<(), StoreError> {
+    fn take(&mut self, row: &StackRow<&[u8]>) -> Result<(), StoreError> {
         if !is_within(self.sums.total(), row.count) {
             return Err(StoreError::Store);
         }

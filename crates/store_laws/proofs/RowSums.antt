@@ -14,7 +14,7 @@ use Rattle.profile_records.specs.declared.kinds.Kind.TheVariants as kinds
 use Rattle.plain_tables.specs.Lists.{Has}
 use Rattle.plain_tables.proofs.Lists.{all_has}
 use Rattle.plain_tables.specs.RunRows.{calls_in, cells_in, stacks_in}
-use Rattle.plain_tables.specs.Tables.{Tables, RunRow, EventRow, NameRow, CellRow, CallRow, StackRow}
+use Rattle.plain_tables.specs.Tables.{Tables, RunRow, EventRow, NameRow, StoredCell, StoredCall, StoredStack}
 use Rattle.prof_books.specs.Book.{cell_held, part_held, run_held, stack_held}
 use Rattle.prof_books.specs.Heads.{stated_at}
 use Rattle.prof_books.specs.Parts.{parts_sum}
@@ -105,22 +105,22 @@ rows_counted f place (event ∷ events) = ap suc (rows_counted f (suc place) eve
 
 -- ---- rows of cells, of calls and of stacks, as sums by column
 
-cells_at : (names : List NameRow) (k : ℕ) (cells : List CellRow) → rows_cost (λ _. true) k (map (cell_held names) cells) ≡ at (λ (c : CellRow). c.event) (λ (c : CellRow). c.cost) k cells
+cells_at : (names : List NameRow) (k : ℕ) (cells : List StoredCell) → rows_cost (λ _. true) k (map (cell_held names) cells) ≡ at (λ (c : StoredCell). c.event) (λ (c : StoredCell). c.cost) k cells
 cells_at names k [] = refl
 cells_at names k (c ∷ cells) = ap (λ n. (if c.event == k then c.cost else 0) + n) (cells_at names k cells)
 
-parts_at : (names : List NameRow) (k : ℕ) (calls : List CallRow) → parts_sum (λ _ _. true) k (map (part_held names) calls) ≡ at (λ (a : CallRow). a.part) (λ (a : CallRow). a.sum) k calls
+parts_at : (names : List NameRow) (k : ℕ) (calls : List StoredCall) → parts_sum (λ _ _. true) k (map (part_held names) calls) ≡ at (λ (a : StoredCall). a.part) (λ (a : StoredCall). a.sum) k calls
 parts_at names k [] = refl
 parts_at names k (a ∷ calls) = ap (λ n. (if a.part == k then a.sum else 0) + n) (parts_at names k calls)
 
-stacks_all : (stacks : List StackRow) → stacks_count (λ _. true) (map stack_held stacks) ≡ at (λ _. 0) (λ (s : StackRow). s.count) 0 stacks
+stacks_all : (stacks : List StoredStack) → stacks_count (λ _. true) (map stack_held stacks) ≡ at (λ _. 0) (λ (s : StoredStack). s.count) 0 stacks
 stacks_all [] = refl
 stacks_all (s ∷ stacks) = ap (λ n. s.count + n) (stacks_all stacks)
 
 no_part : (k : ℕ) → eqb 0 (suc k) ≡ false
 no_part k = grind (arith, nat_tests)
 
-stacks_behind : (k : ℕ) (stacks : List StackRow) → at (λ _. 0) (λ (s : StackRow). s.count) (suc k) stacks ≡ 0
+stacks_behind : (k : ℕ) (stacks : List StoredStack) → at (λ _. 0) (λ (s : StoredStack). s.count) (suc k) stacks ≡ 0
 stacks_behind k [] = refl
 stacks_behind k (s ∷ stacks) = let rest = stacks_behind k stacks in let one : part (0 == suc k) s.count ≡ 0 = ap (λ b. part b s.count) (no_part k) in omega (arith, rest, one)
 
@@ -161,27 +161,27 @@ module _ (t : Tables) (r : RunRow) (f : File) (is : IsBookOf f (run_held t r)) w
       ap (sum_of_part place_of (λ (e : EventRow). e.call_cost) k) is.events
       ∙ each_column (λ (e : EventRow). e.call_cost) (call_column f.format f.bytes) f (λ place event. refl) (events_of f.format f.bytes) calls_behind k
 
-  pub cells_sum : (k : ℕ) → sum_of_part (λ (c : CellRow). c.event) (λ (c : CellRow). c.cost) k (cells_in r.number t) ≡ cells_of_run r.number t k
+  pub cells_sum : (k : ℕ) → sum_of_part (λ (c : StoredCell). c.event) (λ (c : StoredCell). c.cost) k (cells_in r.number t) ≡ cells_of_run r.number t k
   cells_sum k =
-      at_part (λ (c : CellRow). c.event) (λ (c : CellRow). c.cost) k (cells_in r.number t)
+      at_part (λ (c : StoredCell). c.event) (λ (c : StoredCell). c.cost) k (cells_in r.number t)
       ∙ sym (cells_at t.names k (cells_in r.number t)) ∙ is.cells (λ _. true) k ∙ sym (self_costs k)
 
   -- column 0 of parts counts the calls, and each other is one of costs
   pub parts_sum_to : calls_of_run r.number t 0 ≡ r.call_count
-      → (k : ℕ) → sum_of_part (λ (a : CallRow). a.part) (λ (a : CallRow). a.sum) k (calls_in r.number t) ≡ calls_of_run r.number t k
+      → (k : ℕ) → sum_of_part (λ (a : StoredCall). a.part) (λ (a : StoredCall). a.sum) k (calls_in r.number t) ≡ calls_of_run r.number t k
   parts_sum_to alone zero =
-      at_part (λ (a : CallRow). a.part) (λ (a : CallRow). a.sum) 0 (calls_in r.number t)
+      at_part (λ (a : StoredCall). a.part) (λ (a : StoredCall). a.sum) 0 (calls_in r.number t)
       ∙ sym (parts_at t.names 0 (calls_in r.number t)) ∙ is.counts (λ _ _. true) ∙ sym is.call_count ∙ sym alone
   parts_sum_to alone (suc k) =
-      at_part (λ (a : CallRow). a.part) (λ (a : CallRow). a.sum) (suc k) (calls_in r.number t)
+      at_part (λ (a : StoredCall). a.part) (λ (a : StoredCall). a.sum) (suc k) (calls_in r.number t)
       ∙ sym (parts_at t.names (suc k) (calls_in r.number t)) ∙ is.costs (λ _ _. true) k ∙ sym (call_costs k)
 
-  pub stacks_sum : (k : ℕ) → sum_of_part (λ _. 0) (λ (s : StackRow). s.count) k (stacks_in r.number t) ≡ stacks_of_run (kind_in f.format) r.number t k
+  pub stacks_sum : (k : ℕ) → sum_of_part (λ _. 0) (λ (s : StoredStack). s.count) k (stacks_in r.number t) ≡ stacks_of_run (kind_in f.format) r.number t k
   stacks_sum zero =
-      at_part (λ _. 0) (λ (s : StackRow). s.count) 0 (stacks_in r.number t)
+      at_part (λ _. 0) (λ (s : StoredStack). s.count) 0 (stacks_in r.number t)
       ∙ sym (stacks_all (stacks_in r.number t)) ∙ is.stacks (λ _. true) ∙ stacks_are r.number t f.format f.bytes self_costs
   stacks_sum (suc k) =
-      at_part (λ _. 0) (λ (s : StackRow). s.count) (suc k) (stacks_in r.number t)
+      at_part (λ _. 0) (λ (s : StoredStack). s.count) (suc k) (stacks_in r.number t)
       ∙ stacks_behind k (stacks_in r.number t) ∙ sym (one_event r.number t f.format f.bytes self_costs self_behind k)
 
   pub places_low : AllByRecursion (λ (e : EventRow). e.place < length (events_of_run r.number t)) (events_of_run r.number t)
@@ -247,7 +247,7 @@ module _ (h : History) (t : Tables) (represent : TablesRepresent h t) where
   pub held_file : (r : RunRow) → Has t.runs r → (f : File) × Has (held h) f × IsBookOf f (run_held t r)
   held_file r there = file_of t t.runs (held h) r represent.runs there
 
-  pub cells_told : (r : RunRow) → Has t.runs r → (k : ℕ) → sum_of_part (λ (c : CellRow). c.event) (λ (c : CellRow). c.cost) k (cells_in r.number t) ≡ cells_of_run r.number t k
+  pub cells_told : (r : RunRow) → Has t.runs r → (k : ℕ) → sum_of_part (λ (c : StoredCell). c.event) (λ (c : StoredCell). c.cost) k (cells_in r.number t) ≡ cells_of_run r.number t k
   cells_told r there = let is = held_file r there in cells_sum t r is.0 is.2
 
   pub placed : (r : RunRow) → Has t.runs r → AllByRecursion (λ (e : EventRow). e.place < length (events_of_run r.number t)) (events_of_run r.number t)
@@ -259,7 +259,7 @@ module _ (h : History) (t : Tables) (represent : TablesRepresent h t) where
       ap (sum_by (λ (q : RunRow). q.call_count)) (kept_alone t.runs r (earlier_of t t.runs (held h) represent.runs (numbered h represent.legal).rising) there)
       ∙ sum_by-cons (λ (q : RunRow). q.call_count) r [] ∙ omega arith
 
-  pub calls_told : (r : RunRow) → Has t.runs r → (k : ℕ) → sum_of_part (λ (a : CallRow). a.part) (λ (a : CallRow). a.sum) k (calls_in r.number t) ≡ calls_of_run r.number t k
+  pub calls_told : (r : RunRow) → Has t.runs r → (k : ℕ) → sum_of_part (λ (a : StoredCall). a.part) (λ (a : StoredCall). a.sum) k (calls_in r.number t) ≡ calls_of_run r.number t k
   calls_told r there = let is = held_file r there in parts_sum_to t r is.0 is.2 (count_alone r there)
 
   same_kind : (a b : Kind) → kind_number a ≡ kind_number b → a ≡ b
@@ -268,9 +268,9 @@ module _ (h : History) (t : Tables) (represent : TablesRepresent h t) where
   same_kind kinds.Folded kinds.Callgrind same = absurd (omega (arith, same))
   same_kind kinds.Folded kinds.Folded same = refl
 
-  pub stacks_told : (n : ℕ) (kind : Kind) → IsKindOf n t kind → (k : ℕ) → sum_of_part (λ _. 0) (λ (s : StackRow). s.count) k (stacks_in n t) ≡ stacks_of_run kind n t k
+  pub stacks_told : (n : ℕ) (kind : Kind) → IsKindOf n t kind → (k : ℕ) → sum_of_part (λ _. 0) (λ (s : StoredStack). s.count) k (stacks_in n t) ≡ stacks_of_run kind n t k
   stacks_told n kind it k =
       let r = it.0 in
       let is = held_file r it.1 in
       let same : kind_in is.0.format ≡ kind = same_kind (kind_in is.0.format) kind (sym is.2.kind ∙ it.3) in
-      subst (λ m. sum_of_part (λ _. 0) (λ (s : StackRow). s.count) k (stacks_in m t) ≡ stacks_of_run kind m t k) it.2 (stacks_sum t r is.0 is.2 k ∙ ap (λ a. stacks_of_run a r.number t k) same)
+      subst (λ m. sum_of_part (λ _. 0) (λ (s : StoredStack). s.count) k (stacks_in m t) ≡ stacks_of_run kind m t k) it.2 (stacks_sum t r is.0 is.2 k ∙ ap (λ a. stacks_of_run a r.number t k) same)

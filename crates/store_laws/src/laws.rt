@@ -12,7 +12,7 @@ ghost use Rattle.store_schema.specs.Tables.{Holds};
 ghost use Rattle.prof_store.specs.Schemas.{Opened};
 ghost use Rattle.plain_tables.specs.Lists.{Has};
 ghost use Rattle.plain_tables.specs.RunRows.{calls_in, cells_in, stacks_in};
-ghost use Rattle.plain_tables.specs.Tables.{Tables, RunRow, EventRow, CellRow, CallRow, StackRow};
+ghost use Rattle.plain_tables.specs.Tables.{Tables, RunRow, EventRow, StoredCell, StoredCall, StoredStack};
 ghost use Rattle.profile_records.specs.declared.kinds.Kind.{Kind};
 ghost use Rattle.run_stores.specs.Lookups.{IsKindOf};
 ghost use Rattle.run_stores.specs.SelfSums.{events_of_run};
@@ -56,11 +56,11 @@ pub fn memory_keeps_its_history()
 /// represent a history, a store that is read from its pages has no sum of rows to be refused for.
 pub fn rows_sum_to_the_small_tables()
     ensures cells { (h : History) (t : Tables) (r : RunRow) → TablesRepresent h t → Has t.runs r → (k : ℕ)
-        → sum_of_part (λ (c : CellRow). c.event) (λ (c : CellRow). c.cost) k (cells_in r.number t) ≡ cells_of_run r.number t k }
+        → sum_of_part (λ (c : StoredCell). c.event) (λ (c : StoredCell). c.cost) k (cells_in r.number t) ≡ cells_of_run r.number t k }
     ensures calls { (h : History) (t : Tables) (r : RunRow) → TablesRepresent h t → Has t.runs r → (k : ℕ)
-        → sum_of_part (λ (a : CallRow). a.part) (λ (a : CallRow). a.sum) k (calls_in r.number t) ≡ calls_of_run r.number t k }
+        → sum_of_part (λ (a : StoredCall). a.part) (λ (a : StoredCall). a.sum) k (calls_in r.number t) ≡ calls_of_run r.number t k }
     ensures stacks { (h : History) (t : Tables) (n : ℕ) (kind : Kind) → TablesRepresent h t → IsKindOf n t kind → (k : ℕ)
-        → sum_of_part (λ _. 0) (λ (s : StackRow). s.count) k (stacks_in n t) ≡ stacks_of_run kind n t k }
+        → sum_of_part (λ _. 0) (λ (s : StoredStack). s.count) k (stacks_in n t) ≡ stacks_of_run kind n t k }
     ensures small { (h : History) (t : Tables) (r : RunRow) → TablesRepresent h t → Has t.runs r → (k : ℕ)
         → (cells_of_run r.number t k < 2 ^ 64) × (calls_of_run r.number t k < 2 ^ 64) }
     ensures placed { (h : History) (t : Tables) (r : RunRow) → TablesRepresent h t → Has t.runs r

@@ -6,7 +6,7 @@ use Rattle.std.proofs.lemmas.List.{map-append}
 use Rattle.cost_rows.specs.KeySums.{Sums, sums_by, sums_with, with_row}
 use Rattle.cost_rows.specs.Keys.{part_of, place_of_row}
 use Rattle.cost_rows.specs.Sums.{Spot}
-use Rattle.cost_rows.specs.declared.rows.Cell.{Cell}
+use Rattle.cost_rows.specs.declared.rows.CellRow.{CellRow}
 use Rattle.cost_rows.specs.declared.keys.Key.{Key}
 use Rattle.report_texts.specs.Costs.{all_rows, weighted}
 use Rattle.report_texts.specs.KeyReports.{report_of}
@@ -14,7 +14,7 @@ use Rattle.report_texts.specs.KeyTexts.{key_report_text}
 use Rattle.report_texts.specs.declared.cuts.Cut.{Cut}
 use Rattle.prof_books.specs.Book.{cell_held, cells_held}
 use Rattle.plain_tables.specs.RunRows.{cells_in}
-use Rattle.plain_tables.specs.Tables.{Tables, CellRow, NameRow}
+use Rattle.plain_tables.specs.Tables.{Tables, StoredCell, NameRow}
 use Rattle.run_stores.specs.Names.{named_cell}
 use Rattle.run_stores.specs.Walks.{cell_numbers}
 use Rattle.number_sums.specs.Sums.{SumsByNumber, number_rows, with_number}
@@ -37,15 +37,15 @@ all_steps step (run ∷ runs) before after all = all_steps step runs all.0 after
 
 -- ---- the cells of one run, by number
 
-abbrev pub taken : List ℕ × SumsByNumber → Cell ℕ → List ℕ × SumsByNumber
+abbrev pub taken : List ℕ × SumsByNumber → CellRow ℕ → List ℕ × SumsByNumber
 taken m row = (m.0, with_number m.1 (weighted_numbers m.0 row))
 
-pub cells_taken : (counts : List ℕ) (sums : SumsByNumber) (cells : List (Cell ℕ)) → fold taken (counts, sums) cells ≡ (counts, fold with_number sums (map (weighted_numbers counts) cells))
+pub cells_taken : (counts : List ℕ) (sums : SumsByNumber) (cells : List (CellRow ℕ)) → fold taken (counts, sums) cells ≡ (counts, fold with_number sums (map (weighted_numbers counts) cells))
 cells_taken counts sums [] = refl
 cells_taken counts sums (cell ∷ cells) = cells_taken counts (with_number sums (weighted_numbers counts cell)) cells
 
 -- what counts nothing costs nothing
-pub none_taken : (sums : SumsByNumber) (cells : List (Cell ℕ)) → fold with_number sums (map (weighted_numbers []) cells) ≡ sums
+pub none_taken : (sums : SumsByNumber) (cells : List (CellRow ℕ)) → fold with_number sums (map (weighted_numbers []) cells) ≡ sums
 none_taken sums [] = refl
 none_taken sums (cell ∷ cells) =
     ap (λ cost. fold with_number (with_number sums (record cell { event = 0; cost = cost })) (map (weighted_numbers []) cells)) (none_of cell.cost) ∙ none_taken sums cells
@@ -56,7 +56,7 @@ none_taken sums (cell ∷ cells) =
 -- ---- runs one after another, by number
 
 -- their cells as they count in the event
-abbrev pub numbers_of : Tables → List Counted → List (Cell ℕ)
+abbrev pub numbers_of : Tables → List Counted → List (CellRow ℕ)
 numbers_of t [] = []
 numbers_of t (run ∷ runs) = map (weighted_numbers (unwrap_or run.counts [])) (map cell_numbers (cells_in run.number t)) ++ numbers_of t runs
 
@@ -66,7 +66,7 @@ numbers_merged t start (run ∷ runs) =
     numbers_merged t (numbers_from t start run) runs
     ∙ sym (fold-append with_number start (map (weighted_numbers (unwrap_or run.counts [])) (map cell_numbers (cells_in run.number t))) (numbers_of t runs))
 
-cells_named : (names : List NameRow) (counts : List ℕ) (lines : List CellRow)
+cells_named : (names : List NameRow) (counts : List ℕ) (lines : List StoredCell)
     → map (named_cell names) (map (weighted_numbers counts) (map cell_numbers lines)) ≡ map (weighted counts) (map (cell_held names) lines)
 cells_named names counts [] = refl
 cells_named names counts (line ∷ lines) = ap (λ rows. weighted counts (cell_held names line) ∷ rows) (cells_named names counts lines)

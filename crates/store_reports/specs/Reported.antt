@@ -4,7 +4,7 @@ use Rattle.std.specs.List.{AllByRecursion}
 use Rattle.cost_reports.specs.Enough.{AreEnough}
 use Rattle.cost_rows.specs.KeySums.{sums_by}
 use Rattle.cost_rows.specs.declared.keys.Key.{Key}
-use Rattle.cost_rows.specs.declared.rows.Cell.{Cell}
+use Rattle.cost_rows.specs.declared.rows.CellRow.{CellRow}
 use Rattle.report_texts.specs.Costs.{all_rows}
 use Rattle.report_texts.specs.KeyReports.{report_of}
 use Rattle.report_texts.specs.KeyTexts.{key_report_text}
@@ -27,7 +27,7 @@ use Rattle.selected_runs.specs.declared.counting.Counted.{Counted}
 -- ---- by the numbers of names
 
 -- a cell as it counts in the event
-abbrev pub weighted_numbers : List ℕ → Cell ℕ → Cell ℕ
+abbrev pub weighted_numbers : List ℕ → CellRow ℕ → CellRow ℕ
 weighted_numbers counts r = record r { event = 0; cost = slice_index counts r.event * r.cost }
 
 -- the cells of a run are added, each as often as its column counts

@@ -7,7 +7,7 @@ ghost use Rattle.prof_books.specs.Book.{CellIsNamed};
 ghost use Rattle.run_stores.specs.Calls.{Told, AsksIfOpen};
 ghost use Rattle.store_reports.specs.CellSums.{AreOfCells};
 
-use cost_rows::Cell;
+use cost_rows::CellRow;
 use named_rows::{NamedCellSink, each_named_cell};
 use run_stores::{RunStore, StoreError};
 use std::alloc::Global;
@@ -28,7 +28,7 @@ impl NamedCellSink for ByColumn {
 
     ghost step = { λ sums cell. with_cost sums cell.event cell.cost };
 
-    fn take(&mut self, row: &Cell<&[u8]>) -> Result<(), StoreError> {
+    fn take(&mut self, row: &CellRow<&[u8]>) -> Result<(), StoreError> {
         let at = row.event;
         if at >= self.sums.len() {
             return Err(StoreError::Store);

@@ -1,5 +1,5 @@
 // The cells of runs, added up by key in the event that is asked.
-use cost_rows::Cell;
+use cost_rows::CellRow;
 use number_sums::NumberSums;
 use run_stores::{CellSink, StoreError};
 use selected_runs::{cost_within, times_of};
@@ -22,12 +22,12 @@ impl CellSink for EventSums<'_> {
 
     ghost step = { λ m row. (m.0, with_number m.1 (weighted_numbers m.0 row)) };
 
-    fn take(&mut self, row: &Cell<u32>) -> Result<(), StoreError> {
+    fn take(&mut self, row: &CellRow<u32>) -> Result<(), StoreError> {
         let times = times_of(self.counts, row.event);
         let Some(cost) = cost_within(self.sums.total(), times, row.cost) else {
             return Err(StoreError::Store);
         };
-        self.sums.add(&Cell {
+        self.sums.add(&CellRow {
             object: row.object,
             file: row.file,
             function: row.function,

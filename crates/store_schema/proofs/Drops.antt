@@ -33,7 +33,7 @@ use Rattle.sql_tables.proofs.Cascades.{as_work, children_deleted, children_clear
 use Rattle.sql_tables.proofs.Rows.{passes, texts_equal, numbers_equal, any_same, pairs_none}
 use Rattle.sql_tables.proofs.Statements.{plain_mode}
 use Rattle.store_schema.specs.Schema.{schema_two, to, run_at, run_event_at, derived_at, coef_at, thread_cell_at, arc_at, stack_at, grp_at, member_at}
-use Rattle.plain_tables.specs.Tables.{Tables, RunRow, EventRow, DerivedRow, CoefRow, CellRow, CallRow, StackRow, GroupRow, MemberRow}
+use Rattle.plain_tables.specs.Tables.{Tables, RunRow, EventRow, DerivedRow, CoefRow, StoredCell, StoredCall, StoredStack, GroupRow, MemberRow}
 use Rattle.store_schema.specs.Tables.{Holds, contents_of, run_columns, event_columns, derived_columns, coef_columns, cell_columns, arc_columns, stack_columns, group_columns, member_columns, number, number_or_null}
 use Rattle.plain_tables.specs.Changes.{is_named, has_group, without_group, has_run, without_run, is_baseline, has_baseline, unbased}
 use Rattle.store_schema.proofs.Means.{drop_group_terms, drop_run_terms}
@@ -247,7 +247,7 @@ module _ (n : ℕ) (t : Tables) (held : has_run t n ≡ true) (limit : Option �
       → AllContents schema_two.tables (contents_of stacks_gone) next
   unfolding is_it Gone
   drops_stacks taken all db next were did =
-      children_deleted schema_two Enforced 7 stack_at refl refl (contents_of groups_gone) db next were stack_columns t.stacks (λ (x : StackRow). eqb x.run n) refl (of_run stack_at 1 taken) refl
+      children_deleted schema_two Enforced 7 stack_at refl refl (contents_of groups_gone) db next were stack_columns t.stacks (λ (x : StoredStack). eqb x.run n) refl (of_run stack_at 1 taken) refl
       (λ id x. about taken all (is_child_of (as_work true (of_run stack_at 1 taken)) (id ∷ stack_columns x)) (eqb x.run n) (λ y is.
       ap₂ ◌&&◌ (loses_run y) (first_agrees id x.run (drop 1 (stack_columns x)) y) ∙ ap (eqb x.run) is))
       did
@@ -256,7 +256,7 @@ module _ (n : ℕ) (t : Tables) (held : has_run t n ≡ true) (limit : Option �
       → AllContents schema_two.tables (contents_of calls_gone) next
   unfolding is_it Gone
   drops_calls taken all db next were did =
-      children_deleted schema_two Enforced 6 arc_at refl refl (contents_of stacks_gone) db next were arc_columns t.calls (λ (x : CallRow). eqb x.run n) refl (of_run arc_at 1 taken) refl
+      children_deleted schema_two Enforced 6 arc_at refl refl (contents_of stacks_gone) db next were arc_columns t.calls (λ (x : StoredCall). eqb x.run n) refl (of_run arc_at 1 taken) refl
       (λ id x. about taken all (is_child_of (as_work true (of_run arc_at 1 taken)) (id ∷ arc_columns x)) (eqb x.run n) (λ y is.
       ap₂ ◌&&◌ (loses_run y) (first_agrees id x.run (drop 1 (arc_columns x)) y) ∙ ap (eqb x.run) is))
       did
@@ -265,7 +265,7 @@ module _ (n : ℕ) (t : Tables) (held : has_run t n ≡ true) (limit : Option �
       → AllContents schema_two.tables (contents_of cells_gone) next
   unfolding is_it Gone
   drops_cells taken all db next were did =
-      children_deleted schema_two Enforced 10 thread_cell_at refl refl (contents_of run_gone) db next were cell_columns t.cells (λ (x : CellRow). eqb x.run n) refl (of_run thread_cell_at 1 taken) refl
+      children_deleted schema_two Enforced 10 thread_cell_at refl refl (contents_of run_gone) db next were cell_columns t.cells (λ (x : StoredCell). eqb x.run n) refl (of_run thread_cell_at 1 taken) refl
       (λ id x. about taken all (is_child_of (as_work true (of_run thread_cell_at 1 taken)) (id ∷ cell_columns x)) (eqb x.run n) (λ y is.
       ap₂ ◌&&◌ (loses_run y) (first_agrees id x.run (drop 1 (cell_columns x)) y) ∙ ap (eqb x.run) is))
       did

@@ -32,7 +32,7 @@ use Rattle.sql_tables.proofs.TableDrops.{without_content}
 use Rattle.sql_tables.proofs.Updates.{updates_rows}
 use Rattle.store_schema.specs.First.{HoldsFirst, IsOfThreadZero, first_cell_columns, first_contents_of}
 use Rattle.store_schema.specs.Schema.{schema_one, schema_both, schema_two, meta_at, cell_at, thread_cell_at}
-use Rattle.plain_tables.specs.Tables.{Tables, CellRow, RunRow}
+use Rattle.plain_tables.specs.Tables.{Tables, StoredCell, RunRow}
 use Rattle.store_schema.specs.Tables.{Holds, number, meta_columns, run_columns, event_columns, derived_columns, coef_columns, name_columns, cell_columns, arc_columns, stack_columns, group_columns, member_columns}
 use Rattle.store_schema.specs.Texts.{copy_cells_sql, second_sql}
 use Rattle.store_schema.proofs.Values.{cast_null, cast_whole, cast_number}
@@ -54,10 +54,10 @@ unfolding understood everything
 copy_plain = (refl, refl)
 
 -- a cell of version 1, under thread 0
-abbrev pub under_zero : CellRow → Row
+abbrev pub under_zero : StoredCell → Row
 under_zero c = number c.run ∷ number 0 ∷ number c.object ∷ number c.file ∷ number c.function ∷ number c.line ∷ number c.event ∷ number c.cost ∷ []
 
-cast_each : (id : Value) (c : CellRow) → cast_row (plainly thread_cell_at) (eval_all copy_terms ([] ∷ (id ∷ first_cell_columns c) ∷ [])) ≡ Null ∷ under_zero c
+cast_each : (id : Value) (c : StoredCell) → cast_row (plainly thread_cell_at) (eval_all copy_terms ([] ∷ (id ∷ first_cell_columns c) ∷ [])) ≡ Null ∷ under_zero c
 cast_each id c = simp (cast_null, cast_number) refl
 
 -- the contents with the new table, without rows and with them
@@ -137,7 +137,7 @@ pub filled : (t : Tables) (old new : State) (count : ℕ) → Sees t schema_both
 filled t old new count was h = (was.0, copied_cells t old new count was.1 h)
 
 -- under thread 0 they are the lines that they were
-all_zero : (cells : List CellRow) → AllByRecursion IsOfThreadZero cells → map under_zero cells ≡ map cell_columns cells
+all_zero : (cells : List StoredCell) → AllByRecursion IsOfThreadZero cells → map under_zero cells ≡ map cell_columns cells
 all_zero [] all = refl
 all_zero (c ∷ cells) all = ap₂ ◌∷◌ (ap (λ n. number c.run ∷ number n ∷ number c.object ∷ number c.file ∷ number c.function ∷ number c.line ∷ number c.event ∷ number c.cost ∷ []) (sym all.0)) (all_zero cells all.1)
 

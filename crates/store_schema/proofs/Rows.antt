@@ -17,7 +17,7 @@ use Rattle.sql_tables.proofs.Inserts.{inserts_rows, inserts_keyed, inserts_next}
 use Rattle.sql_tables.proofs.Rows.{map-append}
 use Rattle.sql_tables.proofs.Statements.{plain_mode}
 use Rattle.store_schema.specs.Schema.{schema_two, meta_at, run_at, run_event_at, derived_at, coef_at, name_at, thread_cell_at, arc_at, stack_at, grp_at, member_at}
-use Rattle.plain_tables.specs.Tables.{Tables, RunRow, EventRow, DerivedRow, CoefRow, NameRow, CellRow, CallRow, StackRow, GroupRow, MemberRow, new_tables}
+use Rattle.plain_tables.specs.Tables.{Tables, RunRow, EventRow, DerivedRow, CoefRow, NameRow, StoredCell, StoredCall, StoredStack, GroupRow, MemberRow, new_tables}
 use Rattle.store_schema.specs.Tables.{Holds, contents_of, run_columns, event_columns, derived_columns, coef_columns, name_columns, cell_columns, arc_columns, stack_columns, group_columns, member_columns, number}
 use Rattle.plain_tables.specs.Changes.{with_run, with_events, with_derived, with_coefs, next_name, with_new_name, with_cells, with_calls, with_stacks, with_group, with_member}
 use Rattle.store_schema.proofs.Means.{begin_terms, insert_run_terms, insert_event_terms, insert_derived_terms, insert_coef_terms, insert_name_terms, insert_cell_terms, insert_arc_terms, insert_stack_terms, insert_group_terms, insert_member_terms}
@@ -79,19 +79,19 @@ module _ (t : Tables) (limit : Option ℕ) (trees : Trees) (text : List ℕ) (ta
       let it = inserts_rows schema_two (contents_of t) limit (coef_columns c) trees text tally after 4 coef_at refl refl insert_coef_terms 5 was.contain sound h (coef_columns c ∷ []) refl (simp (cast_null, cast_number)) in
       (it.0, record { contain = subst (λ l. Contain schema_two (with_content 4 l (contents_of t)) after.trees) (sym (map-append coef_columns t.coefs (c ∷ []))) it.1; below = was.below })
 
-  pub inserts_cell : (c : CellRow) → Does limit plain_mode (cell_columns c) (record { schema = schema_two; trees = trees }) text None (Insert 10 (Values insert_cell_terms 9)) (Ok (tally, after))
+  pub inserts_cell : (c : StoredCell) → Does limit plain_mode (cell_columns c) (record { schema = schema_two; trees = trees }) text None (Insert 10 (Values insert_cell_terms 9)) (Ok (tally, after))
       → (after.schema ≡ schema_two) × Holds (with_cells (c ∷ []) t) after.trees
   inserts_cell c h =
       let it = inserts_rows schema_two (contents_of t) limit (cell_columns c) trees text tally after 10 thread_cell_at refl refl insert_cell_terms 9 was.contain sound h (cell_columns c ∷ []) refl (simp (cast_null, cast_number)) in
       (it.0, record { contain = subst (λ l. Contain schema_two (with_content 10 l (contents_of t)) after.trees) (sym (map-append cell_columns t.cells (c ∷ []))) it.1; below = was.below })
 
-  pub inserts_arc : (a : CallRow) → Does limit plain_mode (arc_columns a) (record { schema = schema_two; trees = trees }) text None (Insert 6 (Values insert_arc_terms 11)) (Ok (tally, after))
+  pub inserts_arc : (a : StoredCall) → Does limit plain_mode (arc_columns a) (record { schema = schema_two; trees = trees }) text None (Insert 6 (Values insert_arc_terms 11)) (Ok (tally, after))
       → (after.schema ≡ schema_two) × Holds (with_calls (a ∷ []) t) after.trees
   inserts_arc a h =
       let it = inserts_rows schema_two (contents_of t) limit (arc_columns a) trees text tally after 6 arc_at refl refl insert_arc_terms 11 was.contain sound h (arc_columns a ∷ []) refl (simp (cast_null, cast_number)) in
       (it.0, record { contain = subst (λ l. Contain schema_two (with_content 6 l (contents_of t)) after.trees) (sym (map-append arc_columns t.calls (a ∷ []))) it.1; below = was.below })
 
-  pub inserts_stack : (s : StackRow) → Does limit plain_mode (stack_columns s) (record { schema = schema_two; trees = trees }) text None (Insert 7 (Values insert_stack_terms 4)) (Ok (tally, after))
+  pub inserts_stack : (s : StoredStack) → Does limit plain_mode (stack_columns s) (record { schema = schema_two; trees = trees }) text None (Insert 7 (Values insert_stack_terms 4)) (Ok (tally, after))
       → (after.schema ≡ schema_two) × Holds (with_stacks (s ∷ []) t) after.trees
   inserts_stack s h =
       let it = inserts_rows schema_two (contents_of t) limit (stack_columns s) trees text tally after 7 stack_at refl refl insert_stack_terms 4 was.contain sound h (stack_columns s ∷ []) refl (simp (cast_null, cast_number)) in

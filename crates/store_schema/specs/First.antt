@@ -6,13 +6,13 @@ use Rattle.sqlite_value.specs.Order.{Row}
 use Rattle.sqlite_trees.specs.Tree.{Trees}
 use Rattle.sql_tables.specs.Contents.{Contain}
 use Rattle.store_schema.specs.Schema.{schema_one}
-use Rattle.plain_tables.specs.Tables.{Tables, CellRow, RunRow}
+use Rattle.plain_tables.specs.Tables.{Tables, StoredCell, RunRow}
 use Rattle.store_schema.specs.Tables.{number, run_columns, event_columns, derived_columns, coef_columns, name_columns, arc_columns, stack_columns, group_columns, member_columns}
 
 abbrev pub first_meta_columns : ℕ → Row
 first_meta_columns next = number 1 ∷ Null ∷ number 1 ∷ number next ∷ []
 
-abbrev pub first_cell_columns : CellRow → Row
+abbrev pub first_cell_columns : StoredCell → Row
 first_cell_columns c = number c.run ∷ number c.object ∷ number c.file ∷ number c.function ∷ number c.line ∷ number c.event ∷ number c.cost ∷ []
 
 -- the contents of the tables of schema 1, in its order
@@ -21,7 +21,7 @@ first_contents_of t =
     (first_meta_columns t.next ∷ []) ∷ map run_columns t.runs ∷ map event_columns t.events ∷ map derived_columns t.derived ∷ map coef_columns t.coefs ∷ map name_columns t.names
     ∷ map first_cell_columns t.cells ∷ map arc_columns t.calls ∷ map stack_columns t.stacks ∷ map group_columns t.groups ∷ map member_columns t.members ∷ []
 
-abbrev pub IsOfThreadZero : CellRow → Type 0
+abbrev pub IsOfThreadZero : StoredCell → Type 0
 IsOfThreadZero c = c.thread ≡ 0
 
 -- a database of version 1 has these tables, all cells under thread 0, and each run's number is below the next

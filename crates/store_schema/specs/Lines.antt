@@ -1,16 +1,16 @@
 -- The lines of the code, as plain data.
 use Rattle.std.specs.Prelude.{string_bytes, option_map}
 use Rattle.store_schema.specs.declared.table_rows.RunRow.{RunRow}
-use Rattle.plain_tables.specs.Tables.{RunRow as Run, CellRow as Cell, CallRow as Call, StackRow as Stack, EventRow as Event, DerivedRow as Derived, CoefRow as Coef}
-use Rattle.store_schema.specs.declared.table_rows.CellRow.{CellRow}
-use Rattle.store_schema.specs.declared.table_rows.CallRow.{CallRow}
-use Rattle.store_schema.specs.declared.table_rows.StackRow.{StackRow}
+use Rattle.plain_tables.specs.Tables.{RunRow as Run, StoredCell as Cell, StoredCall as Call, StoredStack as Stack, EventRow as Event, DerivedRow as Derived, CoefRow as Coef}
+use Rattle.store_schema.specs.declared.table_rows.StoredCell.{StoredCell}
+use Rattle.store_schema.specs.declared.table_rows.StoredCall.{StoredCall}
+use Rattle.store_schema.specs.declared.table_rows.StoredStack.{StoredStack}
 use Rattle.store_schema.specs.declared.table_rows.HeldStack.{HeldStack}
 use Rattle.store_schema.specs.declared.table_rows.EventRow.{EventRow}
 use Rattle.store_schema.specs.declared.table_rows.DerivedRow.{DerivedRow}
 use Rattle.store_schema.specs.declared.table_rows.CoefRow.{CoefRow}
 
-abbrev pub cell_row : CellRow → Cell
+abbrev pub cell_row : StoredCell → Cell
 cell_row c = record { run = c.run; object = c.object; file = c.file; function = c.function; line = c.line; thread = c.thread; event = c.event; cost = c.cost }
 
 abbrev pub event_row : EventRow → Event
@@ -22,7 +22,7 @@ derived_row d = record { run = d.run; place = d.place; name = d.name.now }
 abbrev pub coef_row : CoefRow → Coef
 coef_row c = record { run = c.run; place = c.place; event = c.event; times = c.times }
 
-abbrev pub call_row : CallRow → Call
+abbrev pub call_row : StoredCall → Call
 call_row a = record {
   run = a.run;
   object = a.object;
@@ -36,7 +36,7 @@ call_row a = record {
   sum = a.sum;
 }
 
-abbrev pub stack_row : StackRow → Stack
+abbrev pub stack_row : StoredStack → Stack
 stack_row s = record { run = s.run; frames = s.frames.now; count = s.count }
 
 abbrev pub held_stack : HeldStack → Stack

@@ -7,7 +7,7 @@ use Rattle.sqlite_value.specs.Order.{Row}
 use Rattle.sqlite_trees.specs.Tree.{Trees}
 use Rattle.sql_tables.specs.Contents.{Contain}
 use Rattle.store_schema.specs.Schema.{schema_two}
-use Rattle.plain_tables.specs.Tables.{Tables, RunRow, EventRow, DerivedRow, CoefRow, NameRow, CellRow, CallRow, StackRow, GroupRow, MemberRow}
+use Rattle.plain_tables.specs.Tables.{Tables, RunRow, EventRow, DerivedRow, CoefRow, NameRow, StoredCell, StoredCall, StoredStack, GroupRow, MemberRow}
 
 -- ---- the rows; a key that is the rowid stands before the others, and leaves its own column empty
 
@@ -40,14 +40,14 @@ coef_columns c = number c.run ∷ number c.place ∷ number c.event ∷ number c
 abbrev pub name_columns : NameRow → Row
 name_columns n = number n.number ∷ Null ∷ Blob n.name ∷ []
 
-abbrev pub cell_columns : CellRow → Row
+abbrev pub cell_columns : StoredCell → Row
 cell_columns c = number c.run ∷ number c.thread ∷ number c.object ∷ number c.file ∷ number c.function ∷ number c.line ∷ number c.event ∷ number c.cost ∷ []
 
-abbrev pub arc_columns : CallRow → Row
+abbrev pub arc_columns : StoredCall → Row
 arc_columns a =
     number a.run ∷ number a.object ∷ number a.file ∷ number a.function ∷ number a.line ∷ number a.called_object ∷ number a.called_file ∷ number a.called_function ∷ number a.part ∷ number a.sum ∷ []
 
-abbrev pub stack_columns : StackRow → Row
+abbrev pub stack_columns : StoredStack → Row
 stack_columns s = number s.run ∷ Blob s.frames ∷ number s.count ∷ []
 
 abbrev pub group_columns : GroupRow → Row

@@ -37,6 +37,6 @@ pub use moving::migrate;
 pub use plain_tables::{StoreError, is_group_name, is_label};
 pub use row_lists::{FromRow, Rises, read_rising, read_rows, rise};
 pub use table_rows::{
-    CallRow, CellRow, CoefRow, DerivedRow, EventRow, HeadRows, HeldStack, RunRow, StackRow,
+    CoefRow, DerivedRow, EventRow, HeadRows, HeldStack, RunRow, StoredCall, StoredCell, StoredStack,
 };
 pub use writing::write_inside;

@@ -4,7 +4,7 @@ use crate::column_int::ColumnInt;
 
 /// The sum of an event's self costs at a place; names by number.
 #[derive(Drop)]
-pub struct CellRow {
+pub struct StoredCell {
     pub run: u32,
     pub object: u32,
     pub file: u32,
@@ -46,7 +46,7 @@ pub struct CoefRow {
 /// A part of the calls from a place to a function, names by number: part 0 counts them, part k + 1
 /// is their cost in column k.
 #[derive(Drop)]
-pub struct CallRow {
+pub struct StoredCall {
     pub run: u32,
     pub object: u32,
     pub file: u32,
@@ -61,7 +61,7 @@ pub struct CallRow {
 
 /// How often a stack was seen.
 #[derive(Drop)]
-pub struct StackRow<'a> {
+pub struct StoredStack<'a> {
     pub run: u32,
     pub frames: &'a [u8],
     pub count: ColumnInt,

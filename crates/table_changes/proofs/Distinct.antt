@@ -17,7 +17,7 @@ use Rattle.sqlite_sql.specs.Catalog.{IsIndexOf, entry_of}
 use Rattle.sql_tables.proofs.Deletes.{row_of}
 use Rattle.sql_tables.proofs.Rows.{id_of}
 use Rattle.plain_tables.specs.Lists.{IsAscending}
-use Rattle.plain_tables.specs.Tables.{EventRow, DerivedRow, CoefRow, NameRow, CellRow, CallRow, StackRow}
+use Rattle.plain_tables.specs.Tables.{EventRow, DerivedRow, CoefRow, NameRow, StoredCell, StoredCall, StoredStack}
 use Rattle.store_schema.specs.Schema.{run_event_at, derived_at, coef_at, name_at, thread_cell_at, arc_at, stack_at}
 use Rattle.store_schema.specs.Tables.{event_columns, derived_columns, coef_columns, name_columns, cell_columns, arc_columns, stack_columns, number}
 use Rattle.table_changes.specs.Keys.{Differ, HeadsDiffer, same_head, event_key, event_name_key, derived_key, derived_name_key, coef_key, cell_key, call_key, stack_key}
@@ -126,7 +126,7 @@ name_heads a b x y same = ap₂ {A = Value} ◌∷◌ (ap Blob same) refl
 pub names_differ : (rows : List Row) (xs : List NameRow) (es : List Row) → Lined name_at name_columns rows xs → IsIndexOf (2 ∷ []) rows es → HeadsDiffer 1 es → Differ (λ (x : NameRow). x.name) xs
 names_differ = differ_by_entries name_at name_columns (λ (x : NameRow). x.name) (2 ∷ []) 1 name_heads
 
-cell_heads : (a b : ℤ) (x y : CellRow) → cell_key x ≡ cell_key y → take 7 (entry_of (1 ∷ 5 ∷ 6 ∷ 4 ∷ 3 ∷ 2 ∷ 7 ∷ []) (row_of thread_cell_at cell_columns (Int a) x)) ≡ take 7 (entry_of (1 ∷ 5 ∷ 6 ∷ 4 ∷ 3 ∷ 2 ∷ 7 ∷ []) (row_of thread_cell_at cell_columns (Int b) y))
+cell_heads : (a b : ℤ) (x y : StoredCell) → cell_key x ≡ cell_key y → take 7 (entry_of (1 ∷ 5 ∷ 6 ∷ 4 ∷ 3 ∷ 2 ∷ 7 ∷ []) (row_of thread_cell_at cell_columns (Int a) x)) ≡ take 7 (entry_of (1 ∷ 5 ∷ 6 ∷ 4 ∷ 3 ∷ 2 ∷ 7 ∷ []) (row_of thread_cell_at cell_columns (Int b) y))
 cell_heads a b x y same =
     let e0 : x.run ≡ y.run = cc in
     let e1 : x.function ≡ y.function = cc in
@@ -137,10 +137,10 @@ cell_heads a b x y same =
     let e6 : x.event ≡ y.event = cc in
     ap₂ {A = Value} ◌∷◌ (ap number e0) (ap₂ {A = Value} ◌∷◌ (ap number e1) (ap₂ {A = Value} ◌∷◌ (ap number e2) (ap₂ {A = Value} ◌∷◌ (ap number e3) (ap₂ {A = Value} ◌∷◌ (ap number e4) (ap₂ {A = Value} ◌∷◌ (ap number e5) (ap₂ {A = Value} ◌∷◌ (ap number e6) refl))))))
 
-pub cells_differ : (rows : List Row) (xs : List CellRow) (es : List Row) → Lined thread_cell_at cell_columns rows xs → IsIndexOf (1 ∷ 5 ∷ 6 ∷ 4 ∷ 3 ∷ 2 ∷ 7 ∷ []) rows es → HeadsDiffer 7 es → Differ cell_key xs
+pub cells_differ : (rows : List Row) (xs : List StoredCell) (es : List Row) → Lined thread_cell_at cell_columns rows xs → IsIndexOf (1 ∷ 5 ∷ 6 ∷ 4 ∷ 3 ∷ 2 ∷ 7 ∷ []) rows es → HeadsDiffer 7 es → Differ cell_key xs
 cells_differ = differ_by_entries thread_cell_at cell_columns cell_key (1 ∷ 5 ∷ 6 ∷ 4 ∷ 3 ∷ 2 ∷ 7 ∷ []) 7 cell_heads
 
-call_heads : (a b : ℤ) (x y : CallRow) → call_key x ≡ call_key y → take 9 (entry_of (1 ∷ 2 ∷ 3 ∷ 4 ∷ 5 ∷ 6 ∷ 7 ∷ 8 ∷ 9 ∷ []) (row_of arc_at arc_columns (Int a) x)) ≡ take 9 (entry_of (1 ∷ 2 ∷ 3 ∷ 4 ∷ 5 ∷ 6 ∷ 7 ∷ 8 ∷ 9 ∷ []) (row_of arc_at arc_columns (Int b) y))
+call_heads : (a b : ℤ) (x y : StoredCall) → call_key x ≡ call_key y → take 9 (entry_of (1 ∷ 2 ∷ 3 ∷ 4 ∷ 5 ∷ 6 ∷ 7 ∷ 8 ∷ 9 ∷ []) (row_of arc_at arc_columns (Int a) x)) ≡ take 9 (entry_of (1 ∷ 2 ∷ 3 ∷ 4 ∷ 5 ∷ 6 ∷ 7 ∷ 8 ∷ 9 ∷ []) (row_of arc_at arc_columns (Int b) y))
 call_heads a b x y same =
     let e0 : x.run ≡ y.run = cc in
     let e1 : x.object ≡ y.object = cc in
@@ -153,14 +153,14 @@ call_heads a b x y same =
     let e8 : x.part ≡ y.part = cc in
     ap₂ {A = Value} ◌∷◌ (ap number e0) (ap₂ {A = Value} ◌∷◌ (ap number e1) (ap₂ {A = Value} ◌∷◌ (ap number e2) (ap₂ {A = Value} ◌∷◌ (ap number e3) (ap₂ {A = Value} ◌∷◌ (ap number e4) (ap₂ {A = Value} ◌∷◌ (ap number e5) (ap₂ {A = Value} ◌∷◌ (ap number e6) (ap₂ {A = Value} ◌∷◌ (ap number e7) (ap₂ {A = Value} ◌∷◌ (ap number e8) refl))))))))
 
-pub calls_differ : (rows : List Row) (xs : List CallRow) (es : List Row) → Lined arc_at arc_columns rows xs → IsIndexOf (1 ∷ 2 ∷ 3 ∷ 4 ∷ 5 ∷ 6 ∷ 7 ∷ 8 ∷ 9 ∷ []) rows es → HeadsDiffer 9 es → Differ call_key xs
+pub calls_differ : (rows : List Row) (xs : List StoredCall) (es : List Row) → Lined arc_at arc_columns rows xs → IsIndexOf (1 ∷ 2 ∷ 3 ∷ 4 ∷ 5 ∷ 6 ∷ 7 ∷ 8 ∷ 9 ∷ []) rows es → HeadsDiffer 9 es → Differ call_key xs
 calls_differ = differ_by_entries arc_at arc_columns call_key (1 ∷ 2 ∷ 3 ∷ 4 ∷ 5 ∷ 6 ∷ 7 ∷ 8 ∷ 9 ∷ []) 9 call_heads
 
-stack_heads : (a b : ℤ) (x y : StackRow) → stack_key x ≡ stack_key y → take 2 (entry_of (1 ∷ 2 ∷ []) (row_of stack_at stack_columns (Int a) x)) ≡ take 2 (entry_of (1 ∷ 2 ∷ []) (row_of stack_at stack_columns (Int b) y))
+stack_heads : (a b : ℤ) (x y : StoredStack) → stack_key x ≡ stack_key y → take 2 (entry_of (1 ∷ 2 ∷ []) (row_of stack_at stack_columns (Int a) x)) ≡ take 2 (entry_of (1 ∷ 2 ∷ []) (row_of stack_at stack_columns (Int b) y))
 stack_heads a b x y same =
     let e0 : x.run ≡ y.run = cc in
     let last : x.frames ≡ y.frames = cc in
     ap₂ {A = Value} ◌∷◌ (ap number e0) (ap₂ {A = Value} ◌∷◌ (ap Blob last) refl)
 
-pub stacks_differ : (rows : List Row) (xs : List StackRow) (es : List Row) → Lined stack_at stack_columns rows xs → IsIndexOf (1 ∷ 2 ∷ []) rows es → HeadsDiffer 2 es → Differ stack_key xs
+pub stacks_differ : (rows : List Row) (xs : List StoredStack) (es : List Row) → Lined stack_at stack_columns rows xs → IsIndexOf (1 ∷ 2 ∷ []) rows es → HeadsDiffer 2 es → Differ stack_key xs
 stacks_differ = differ_by_entries stack_at stack_columns stack_key (1 ∷ 2 ∷ []) 2 stack_heads

@@ -6,7 +6,7 @@ use Rattle.sqlite_trees.specs.View.{IsShaped}
 use Rattle.sqlite_trees.specs.declared.store.Shape.TheVariants as shape
 use Rattle.sqlite_sql.specs.Catalog.{IsIndexOf}
 use Rattle.sql_tables.proofs.Rows.{numbers_equal, texts_equal}
-use Rattle.plain_tables.specs.Tables.{Tables, EventRow, DerivedRow, CoefRow, CellRow, CallRow, StackRow, MemberRow}
+use Rattle.plain_tables.specs.Tables.{Tables, EventRow, DerivedRow, CoefRow, StoredCell, StoredCall, StoredStack, MemberRow}
 use Rattle.sqlite_value.specs.declared.value.Value.TheVariants.{Text}
 use Rattle.store_schema.specs.Seen.{is_at}
 use Rattle.store_schema.specs.Tables.{Holds, number}
@@ -41,21 +41,21 @@ module _ (t : Tables) (db next : Trees) (was : Holds t db) (n : ℕ) where
       coefs_taken_out t db next was n (λ r. not (is_of_run n r)) only shaped left (λ id x there. ap not (numbers_equal x.run n))
 
   pub cells_thinned : SparesBut (23 ∷ 24 ∷ []) db next → AreThinned (is_of_run n) (db 23) (next 23) → IsShaped shape.Table (next 23) → list_any (is_of_run n) (next 23) ≡ false
-      → IsIndexOf (1 ∷ 5 ∷ 6 ∷ 4 ∷ 3 ∷ 2 ∷ 7 ∷ []) (next 23) (next 24) → Holds (record t { cells = filter (λ (x : CellRow). not (x.run == n)) t.cells }) next
+      → IsIndexOf (1 ∷ 5 ∷ 6 ∷ 4 ∷ 3 ∷ 2 ∷ 7 ∷ []) (next 23) (next 24) → Holds (record t { cells = filter (λ (x : StoredCell). not (x.run == n)) t.cells }) next
   cells_thinned spared thinned shaped none indexed =
       let only = only_cells db next was.contain.sound spared indexed in
       let left = thinned_all (is_of_run n) (db 23) (next 23) thinned (cells_there t db was).numbered shaped none in
       cells_taken_out t db next was n (λ r. not (is_of_run n r)) only shaped left (λ id x there. ap not (numbers_equal x.run n))
 
   pub calls_thinned : SparesBut (15 ∷ 16 ∷ []) db next → AreThinned (is_of_run n) (db 15) (next 15) → IsShaped shape.Table (next 15) → list_any (is_of_run n) (next 15) ≡ false
-      → IsIndexOf (1 ∷ 2 ∷ 3 ∷ 4 ∷ 5 ∷ 6 ∷ 7 ∷ 8 ∷ 9 ∷ []) (next 15) (next 16) → Holds (record t { calls = filter (λ (x : CallRow). not (x.run == n)) t.calls }) next
+      → IsIndexOf (1 ∷ 2 ∷ 3 ∷ 4 ∷ 5 ∷ 6 ∷ 7 ∷ 8 ∷ 9 ∷ []) (next 15) (next 16) → Holds (record t { calls = filter (λ (x : StoredCall). not (x.run == n)) t.calls }) next
   calls_thinned spared thinned shaped none indexed =
       let only = only_calls db next was.contain.sound spared indexed in
       let left = thinned_all (is_of_run n) (db 15) (next 15) thinned (calls_there t db was).numbered shaped none in
       calls_taken_out t db next was n (λ r. not (is_of_run n r)) only shaped left (λ id x there. ap not (numbers_equal x.run n))
 
   pub stacks_thinned : SparesBut (17 ∷ 18 ∷ []) db next → AreThinned (is_of_run n) (db 17) (next 17) → IsShaped shape.Table (next 17) → list_any (is_of_run n) (next 17) ≡ false
-      → IsIndexOf (1 ∷ 2 ∷ []) (next 17) (next 18) → Holds (record t { stacks = filter (λ (x : StackRow). not (x.run == n)) t.stacks }) next
+      → IsIndexOf (1 ∷ 2 ∷ []) (next 17) (next 18) → Holds (record t { stacks = filter (λ (x : StoredStack). not (x.run == n)) t.stacks }) next
   stacks_thinned spared thinned shaped none indexed =
       let only = only_stacks db next was.contain.sound spared indexed in
       let left = thinned_all (is_of_run n) (db 17) (next 17) thinned (stacks_there t db was).numbered shaped none in

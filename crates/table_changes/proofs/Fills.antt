@@ -12,7 +12,7 @@ use Rattle.sqlite_rules.proofs.ListLemmas.{all_from, all_has, some_from}
 use Rattle.sqlite_sql.specs.Catalog.{IsIndexOf}
 use Rattle.sql_tables.specs.Contents.{rows_that_count}
 use Rattle.plain_tables.specs.Changes.{has_name, has_run, with_calls, with_cells, with_coefs, with_derived, with_events, with_stacks}
-use Rattle.plain_tables.specs.Tables.{Tables, EventRow, DerivedRow, CoefRow, NameRow, CellRow, CallRow, StackRow}
+use Rattle.plain_tables.specs.Tables.{Tables, EventRow, DerivedRow, CoefRow, NameRow, StoredCell, StoredCall, StoredStack}
 use Rattle.store_schema.specs.Schema.{run_event_at, derived_at, coef_at, name_at, thread_cell_at, arc_at, stack_at}
 use Rattle.store_schema.specs.Tables.{Holds, event_columns, derived_columns, coef_columns, name_columns, cell_columns, arc_columns, stack_columns}
 use Rattle.table_changes.specs.Changes.{SparesBut}
@@ -53,22 +53,22 @@ module _ (t : Tables) (db next : Trees) (was : Holds t db) (n : ℕ) (held : has
       let lines : Lined coef_at coef_columns news xs = new_lines t db was 4 coef_at coef_columns t.coefs refl refl next refl only shaped news xs behind news_are in
       coefs_of_run t db next was news n held only shaped xs behind news_are of_new (coefs_differ news xs filled.entries lines filled.are_of filled.differ)
 
-  pub cells_filled : (xs : List CellRow) → SparesBut (23 ∷ 24 ∷ []) db next → IsShaped shape.Table (next 23) → next 23 ≡ db 23 ++ news → rows_that_count thread_cell_at news ≡ map cell_columns xs
-      → AreOfNewRun (λ (x : CellRow). x.run) n t.cells xs → Fills (1 ∷ 5 ∷ 6 ∷ 4 ∷ 3 ∷ 2 ∷ 7 ∷ []) 7 news (db 24) (next 24) → Holds (with_cells xs t) next
+  pub cells_filled : (xs : List StoredCell) → SparesBut (23 ∷ 24 ∷ []) db next → IsShaped shape.Table (next 23) → next 23 ≡ db 23 ++ news → rows_that_count thread_cell_at news ≡ map cell_columns xs
+      → AreOfNewRun (λ (x : StoredCell). x.run) n t.cells xs → Fills (1 ∷ 5 ∷ 6 ∷ 4 ∷ 3 ∷ 2 ∷ 7 ∷ []) 7 news (db 24) (next 24) → Holds (with_cells xs t) next
   cells_filled xs spared shaped behind news_are of_new filled =
       let only = only_cells db next was.contain.sound spared (filled_index (1 ∷ 5 ∷ 6 ∷ 4 ∷ 3 ∷ 2 ∷ 7 ∷ []) 7 (db 23) news (db 24) (next 24) (next 23) behind was.contain.sound.obeys.indexed.1.1.1.1.1.1.1.1.1.1.1.0 filled) in
       let lines : Lined thread_cell_at cell_columns news xs = new_lines t db was 10 thread_cell_at cell_columns t.cells refl refl next refl only shaped news xs behind news_are in
       cells_of_run t db next was news n held only shaped xs behind news_are of_new (cells_differ news xs filled.entries lines filled.are_of filled.differ)
 
-  pub calls_filled : (xs : List CallRow) → SparesBut (15 ∷ 16 ∷ []) db next → IsShaped shape.Table (next 15) → next 15 ≡ db 15 ++ news → rows_that_count arc_at news ≡ map arc_columns xs
-      → AreOfNewRun (λ (x : CallRow). x.run) n t.calls xs → Fills (1 ∷ 2 ∷ 3 ∷ 4 ∷ 5 ∷ 6 ∷ 7 ∷ 8 ∷ 9 ∷ []) 9 news (db 16) (next 16) → Holds (with_calls xs t) next
+  pub calls_filled : (xs : List StoredCall) → SparesBut (15 ∷ 16 ∷ []) db next → IsShaped shape.Table (next 15) → next 15 ≡ db 15 ++ news → rows_that_count arc_at news ≡ map arc_columns xs
+      → AreOfNewRun (λ (x : StoredCall). x.run) n t.calls xs → Fills (1 ∷ 2 ∷ 3 ∷ 4 ∷ 5 ∷ 6 ∷ 7 ∷ 8 ∷ 9 ∷ []) 9 news (db 16) (next 16) → Holds (with_calls xs t) next
   calls_filled xs spared shaped behind news_are of_new filled =
       let only = only_calls db next was.contain.sound spared (filled_index (1 ∷ 2 ∷ 3 ∷ 4 ∷ 5 ∷ 6 ∷ 7 ∷ 8 ∷ 9 ∷ []) 9 (db 15) news (db 16) (next 16) (next 15) behind was.contain.sound.obeys.indexed.1.1.1.1.1.1.1.0 filled) in
       let lines : Lined arc_at arc_columns news xs = new_lines t db was 6 arc_at arc_columns t.calls refl refl next refl only shaped news xs behind news_are in
       calls_of_run t db next was news n held only shaped xs behind news_are of_new (calls_differ news xs filled.entries lines filled.are_of filled.differ)
 
-  pub stacks_filled : (xs : List StackRow) → SparesBut (17 ∷ 18 ∷ []) db next → IsShaped shape.Table (next 17) → next 17 ≡ db 17 ++ news → rows_that_count stack_at news ≡ map stack_columns xs
-      → AreOfNewRun (λ (x : StackRow). x.run) n t.stacks xs → Fills (1 ∷ 2 ∷ []) 2 news (db 18) (next 18) → Holds (with_stacks xs t) next
+  pub stacks_filled : (xs : List StoredStack) → SparesBut (17 ∷ 18 ∷ []) db next → IsShaped shape.Table (next 17) → next 17 ≡ db 17 ++ news → rows_that_count stack_at news ≡ map stack_columns xs
+      → AreOfNewRun (λ (x : StoredStack). x.run) n t.stacks xs → Fills (1 ∷ 2 ∷ []) 2 news (db 18) (next 18) → Holds (with_stacks xs t) next
   stacks_filled xs spared shaped behind news_are of_new filled =
       let only = only_stacks db next was.contain.sound spared (filled_index (1 ∷ 2 ∷ []) 2 (db 17) news (db 18) (next 18) (next 17) behind was.contain.sound.obeys.indexed.1.1.1.1.1.1.1.1.0 filled) in
       let lines : Lined stack_at stack_columns news xs = new_lines t db was 7 stack_at stack_columns t.stacks refl refl next refl only shaped news xs behind news_are in

@@ -16,7 +16,7 @@ use Rattle.sql_tables.proofs.Deletes.{row_of}
 use Rattle.sql_tables.proofs.Rows.{id_of}
 use Rattle.plain_tables.specs.Changes.{has_run, with_calls, with_cells, with_coefs, with_derived, with_events, with_stacks}
 use Rattle.plain_tables.specs.Sound.{AreOfRuns}
-use Rattle.plain_tables.specs.Tables.{Tables, EventRow, DerivedRow, CoefRow, CellRow, CallRow, StackRow}
+use Rattle.plain_tables.specs.Tables.{Tables, EventRow, DerivedRow, CoefRow, StoredCell, StoredCall, StoredStack}
 use Rattle.sql_tables.specs.Contents.{rows_that_count}
 use Rattle.store_schema.specs.Schema.{schema_two, to, run_at, run_event_at, derived_at, coef_at, thread_cell_at, arc_at, stack_at}
 use Rattle.store_schema.specs.Tables.{Holds, event_columns, derived_columns, coef_columns, cell_columns, arc_columns, stack_columns, number}
@@ -68,13 +68,13 @@ derived_alone = alone_from derived_at derived_columns (λ id x. refl) (λ id x. 
 coefs_alone : (rows : List Row) (xs : List CoefRow) → Lined coef_at coef_columns rows xs → PassAlone coef_at rows
 coefs_alone = alone_from coef_at coef_columns (λ id x. refl) (λ id x. refl) (λ id x. refl)
 
-cells_alone : (rows : List Row) (xs : List CellRow) → Lined thread_cell_at cell_columns rows xs → PassAlone thread_cell_at rows
+cells_alone : (rows : List Row) (xs : List StoredCell) → Lined thread_cell_at cell_columns rows xs → PassAlone thread_cell_at rows
 cells_alone = alone_from thread_cell_at cell_columns (λ id x. refl) (λ id x. refl) (λ id x. refl)
 
-calls_alone : (rows : List Row) (xs : List CallRow) → Lined arc_at arc_columns rows xs → PassAlone arc_at rows
+calls_alone : (rows : List Row) (xs : List StoredCall) → Lined arc_at arc_columns rows xs → PassAlone arc_at rows
 calls_alone = alone_from arc_at arc_columns (λ id x. refl) (λ id x. refl) (λ id x. refl)
 
-stacks_alone : (rows : List Row) (xs : List StackRow) → Lined stack_at stack_columns rows xs → PassAlone stack_at rows
+stacks_alone : (rows : List Row) (xs : List StoredStack) → Lined stack_at stack_columns rows xs → PassAlone stack_at rows
 stacks_alone = alone_from stack_at stack_columns (λ id x. refl) (λ id x. refl) (λ id x. refl)
 
 -- ---- the keys of the rows
@@ -94,13 +94,13 @@ derived_name_key_read a b x y h = let each = agrees_at (1 ∷ 3 ∷ []) (Int a �
 coef_key_read : (a b : ℤ) (x y : CoefRow) → agree plain (1 ∷ 2 ∷ 3 ∷ []) (row_of coef_at coef_columns (Int a) x) (1 ∷ 2 ∷ 3 ∷ []) (row_of coef_at coef_columns (Int b) y) ≡ true → coef_key x ≡ coef_key y
 coef_key_read a b x y h = let each = agrees_at (1 ∷ 2 ∷ 3 ∷ []) (Int a ∷ coef_columns x) (Int b ∷ coef_columns y) h in ap₂ ◌∷◌ (number_is x.run y.run each.0) (ap₂ ◌∷◌ (number_is x.place y.place each.1.0) (ap₂ ◌∷◌ (number_is x.event y.event each.1.1.0) refl))
 
-cell_key_read : (a b : ℤ) (x y : CellRow) → agree plain (1 ∷ 5 ∷ 6 ∷ 4 ∷ 3 ∷ 2 ∷ 7 ∷ []) (row_of thread_cell_at cell_columns (Int a) x) (1 ∷ 5 ∷ 6 ∷ 4 ∷ 3 ∷ 2 ∷ 7 ∷ []) (row_of thread_cell_at cell_columns (Int b) y) ≡ true → cell_key x ≡ cell_key y
+cell_key_read : (a b : ℤ) (x y : StoredCell) → agree plain (1 ∷ 5 ∷ 6 ∷ 4 ∷ 3 ∷ 2 ∷ 7 ∷ []) (row_of thread_cell_at cell_columns (Int a) x) (1 ∷ 5 ∷ 6 ∷ 4 ∷ 3 ∷ 2 ∷ 7 ∷ []) (row_of thread_cell_at cell_columns (Int b) y) ≡ true → cell_key x ≡ cell_key y
 cell_key_read a b x y h = let each = agrees_at (1 ∷ 5 ∷ 6 ∷ 4 ∷ 3 ∷ 2 ∷ 7 ∷ []) (Int a ∷ cell_columns x) (Int b ∷ cell_columns y) h in ap₂ ◌∷◌ (number_is x.run y.run each.0) (ap₂ ◌∷◌ (number_is x.function y.function each.1.0) (ap₂ ◌∷◌ (number_is x.line y.line each.1.1.0) (ap₂ ◌∷◌ (number_is x.file y.file each.1.1.1.0) (ap₂ ◌∷◌ (number_is x.object y.object each.1.1.1.1.0) (ap₂ ◌∷◌ (number_is x.thread y.thread each.1.1.1.1.1.0) (ap₂ ◌∷◌ (number_is x.event y.event each.1.1.1.1.1.1.0) refl))))))
 
-call_key_read : (a b : ℤ) (x y : CallRow) → agree plain (1 ∷ 2 ∷ 3 ∷ 4 ∷ 5 ∷ 6 ∷ 7 ∷ 8 ∷ 9 ∷ []) (row_of arc_at arc_columns (Int a) x) (1 ∷ 2 ∷ 3 ∷ 4 ∷ 5 ∷ 6 ∷ 7 ∷ 8 ∷ 9 ∷ []) (row_of arc_at arc_columns (Int b) y) ≡ true → call_key x ≡ call_key y
+call_key_read : (a b : ℤ) (x y : StoredCall) → agree plain (1 ∷ 2 ∷ 3 ∷ 4 ∷ 5 ∷ 6 ∷ 7 ∷ 8 ∷ 9 ∷ []) (row_of arc_at arc_columns (Int a) x) (1 ∷ 2 ∷ 3 ∷ 4 ∷ 5 ∷ 6 ∷ 7 ∷ 8 ∷ 9 ∷ []) (row_of arc_at arc_columns (Int b) y) ≡ true → call_key x ≡ call_key y
 call_key_read a b x y h = let each = agrees_at (1 ∷ 2 ∷ 3 ∷ 4 ∷ 5 ∷ 6 ∷ 7 ∷ 8 ∷ 9 ∷ []) (Int a ∷ arc_columns x) (Int b ∷ arc_columns y) h in ap₂ ◌∷◌ (number_is x.run y.run each.0) (ap₂ ◌∷◌ (number_is x.object y.object each.1.0) (ap₂ ◌∷◌ (number_is x.file y.file each.1.1.0) (ap₂ ◌∷◌ (number_is x.function y.function each.1.1.1.0) (ap₂ ◌∷◌ (number_is x.line y.line each.1.1.1.1.0) (ap₂ ◌∷◌ (number_is x.called_object y.called_object each.1.1.1.1.1.0) (ap₂ ◌∷◌ (number_is x.called_file y.called_file each.1.1.1.1.1.1.0) (ap₂ ◌∷◌ (number_is x.called_function y.called_function each.1.1.1.1.1.1.1.0) (ap₂ ◌∷◌ (number_is x.part y.part each.1.1.1.1.1.1.1.1.0) refl))))))))
 
-stack_key_read : (a b : ℤ) (x y : StackRow) → agree plain (1 ∷ 2 ∷ []) (row_of stack_at stack_columns (Int a) x) (1 ∷ 2 ∷ []) (row_of stack_at stack_columns (Int b) y) ≡ true → stack_key x ≡ stack_key y
+stack_key_read : (a b : ℤ) (x y : StoredStack) → agree plain (1 ∷ 2 ∷ []) (row_of stack_at stack_columns (Int a) x) (1 ∷ 2 ∷ []) (row_of stack_at stack_columns (Int b) y) ≡ true → stack_key x ≡ stack_key y
 stack_key_read a b x y h = let each = agrees_at (1 ∷ 2 ∷ []) (Int a ∷ stack_columns x) (Int b ∷ stack_columns y) h in ap₂ ◌∷◌ (number_is x.run y.run each.0) (blob_is x.frames y.frames each.1.0)
 
 -- ---- lines behind the others, by rows that have them behind their rowids
@@ -139,36 +139,36 @@ module _ (t : Tables) (db next : Trees) (was : Holds t db) (news : List Row) whe
         below = was.below;
       }
 
-  pub cells_behind : OnlyChanges schema_two db next thread_cell_at → IsShaped shape.Table (next thread_cell_at.tree) → (xs : List CellRow) → next thread_cell_at.tree ≡ db thread_cell_at.tree ++ news → rows_that_count thread_cell_at news ≡ map cell_columns xs
-      → AreOfRuns t (λ (x : CellRow). x.run) xs → AreNew cell_key t.cells xs → Holds (with_cells xs t) next
+  pub cells_behind : OnlyChanges schema_two db next thread_cell_at → IsShaped shape.Table (next thread_cell_at.tree) → (xs : List StoredCell) → next thread_cell_at.tree ≡ db thread_cell_at.tree ++ news → rows_that_count thread_cell_at news ≡ map cell_columns xs
+      → AreOfRuns t (λ (x : StoredCell). x.run) xs → AreNew cell_key t.cells xs → Holds (with_cells xs t) next
   cells_behind only shaped xs behind news_are held new =
       let olds : Lined thread_cell_at cell_columns (db thread_cell_at.tree) t.cells = lines_there t db was 10 thread_cell_at cell_columns t.cells refl refl in
       let fresh : Lined thread_cell_at cell_columns news xs = new_lines t db was 10 thread_cell_at cell_columns t.cells refl refl next refl only shaped news xs behind news_are in
       record {
         contain = lines_behind t db was 10 thread_cell_at cell_columns t.cells refl refl next refl only shaped news xs behind news_are
-            (record { alone = cells_alone news xs fresh; unique = and_from _ _ (ap not (none_clash thread_cell_at cell_columns cell_key (1 ∷ 5 ∷ 6 ∷ 4 ∷ 3 ∷ 2 ∷ 7 ∷ []) cell_key_read (db thread_cell_at.tree) news (next thread_cell_at.tree) t.cells xs behind olds fresh new)) refl; parents = parents_there t db next was thread_cell_at only refl cell_columns (λ (x : CellRow). x.run) news xs (λ id x. refl) fresh held });
+            (record { alone = cells_alone news xs fresh; unique = and_from _ _ (ap not (none_clash thread_cell_at cell_columns cell_key (1 ∷ 5 ∷ 6 ∷ 4 ∷ 3 ∷ 2 ∷ 7 ∷ []) cell_key_read (db thread_cell_at.tree) news (next thread_cell_at.tree) t.cells xs behind olds fresh new)) refl; parents = parents_there t db next was thread_cell_at only refl cell_columns (λ (x : StoredCell). x.run) news xs (λ id x. refl) fresh held });
         below = was.below;
       }
 
-  pub calls_behind : OnlyChanges schema_two db next arc_at → IsShaped shape.Table (next arc_at.tree) → (xs : List CallRow) → next arc_at.tree ≡ db arc_at.tree ++ news → rows_that_count arc_at news ≡ map arc_columns xs
-      → AreOfRuns t (λ (x : CallRow). x.run) xs → AreNew call_key t.calls xs → Holds (with_calls xs t) next
+  pub calls_behind : OnlyChanges schema_two db next arc_at → IsShaped shape.Table (next arc_at.tree) → (xs : List StoredCall) → next arc_at.tree ≡ db arc_at.tree ++ news → rows_that_count arc_at news ≡ map arc_columns xs
+      → AreOfRuns t (λ (x : StoredCall). x.run) xs → AreNew call_key t.calls xs → Holds (with_calls xs t) next
   calls_behind only shaped xs behind news_are held new =
       let olds : Lined arc_at arc_columns (db arc_at.tree) t.calls = lines_there t db was 6 arc_at arc_columns t.calls refl refl in
       let fresh : Lined arc_at arc_columns news xs = new_lines t db was 6 arc_at arc_columns t.calls refl refl next refl only shaped news xs behind news_are in
       record {
         contain = lines_behind t db was 6 arc_at arc_columns t.calls refl refl next refl only shaped news xs behind news_are
-            (record { alone = calls_alone news xs fresh; unique = and_from _ _ (ap not (none_clash arc_at arc_columns call_key (1 ∷ 2 ∷ 3 ∷ 4 ∷ 5 ∷ 6 ∷ 7 ∷ 8 ∷ 9 ∷ []) call_key_read (db arc_at.tree) news (next arc_at.tree) t.calls xs behind olds fresh new)) refl; parents = parents_there t db next was arc_at only refl arc_columns (λ (x : CallRow). x.run) news xs (λ id x. refl) fresh held });
+            (record { alone = calls_alone news xs fresh; unique = and_from _ _ (ap not (none_clash arc_at arc_columns call_key (1 ∷ 2 ∷ 3 ∷ 4 ∷ 5 ∷ 6 ∷ 7 ∷ 8 ∷ 9 ∷ []) call_key_read (db arc_at.tree) news (next arc_at.tree) t.calls xs behind olds fresh new)) refl; parents = parents_there t db next was arc_at only refl arc_columns (λ (x : StoredCall). x.run) news xs (λ id x. refl) fresh held });
         below = was.below;
       }
 
-  pub stacks_behind : OnlyChanges schema_two db next stack_at → IsShaped shape.Table (next stack_at.tree) → (xs : List StackRow) → next stack_at.tree ≡ db stack_at.tree ++ news → rows_that_count stack_at news ≡ map stack_columns xs
-      → AreOfRuns t (λ (x : StackRow). x.run) xs → AreNew stack_key t.stacks xs → Holds (with_stacks xs t) next
+  pub stacks_behind : OnlyChanges schema_two db next stack_at → IsShaped shape.Table (next stack_at.tree) → (xs : List StoredStack) → next stack_at.tree ≡ db stack_at.tree ++ news → rows_that_count stack_at news ≡ map stack_columns xs
+      → AreOfRuns t (λ (x : StoredStack). x.run) xs → AreNew stack_key t.stacks xs → Holds (with_stacks xs t) next
   stacks_behind only shaped xs behind news_are held new =
       let olds : Lined stack_at stack_columns (db stack_at.tree) t.stacks = lines_there t db was 7 stack_at stack_columns t.stacks refl refl in
       let fresh : Lined stack_at stack_columns news xs = new_lines t db was 7 stack_at stack_columns t.stacks refl refl next refl only shaped news xs behind news_are in
       record {
         contain = lines_behind t db was 7 stack_at stack_columns t.stacks refl refl next refl only shaped news xs behind news_are
-            (record { alone = stacks_alone news xs fresh; unique = and_from _ _ (ap not (none_clash stack_at stack_columns stack_key (1 ∷ 2 ∷ []) stack_key_read (db stack_at.tree) news (next stack_at.tree) t.stacks xs behind olds fresh new)) refl; parents = parents_there t db next was stack_at only refl stack_columns (λ (x : StackRow). x.run) news xs (λ id x. refl) fresh held });
+            (record { alone = stacks_alone news xs fresh; unique = and_from _ _ (ap not (none_clash stack_at stack_columns stack_key (1 ∷ 2 ∷ []) stack_key_read (db stack_at.tree) news (next stack_at.tree) t.stacks xs behind olds fresh new)) refl; parents = parents_there t db next was stack_at only refl stack_columns (λ (x : StoredStack). x.run) news xs (λ id x. refl) fresh held });
         below = was.below;
       }
 
@@ -193,17 +193,17 @@ module _ (t : Tables) (db next : Trees) (was : Holds t db) (news : List Row) whe
     coefs_of_run only shaped xs behind news_are of_new new =
         coefs_behind only shaped xs behind news_are (of_runs (λ (x : CoefRow). x.run) n t.coefs xs of_new t held) (new_keys (λ (x : CoefRow). x.run) n t.coefs xs of_new coef_key (λ x y same. head_same same) new)
 
-    pub cells_of_run : OnlyChanges schema_two db next thread_cell_at → IsShaped shape.Table (next thread_cell_at.tree) → (xs : List CellRow) → next thread_cell_at.tree ≡ db thread_cell_at.tree ++ news → rows_that_count thread_cell_at news ≡ map cell_columns xs
-        → AreOfNewRun (λ (x : CellRow). x.run) n t.cells xs → Differ cell_key xs → Holds (with_cells xs t) next
+    pub cells_of_run : OnlyChanges schema_two db next thread_cell_at → IsShaped shape.Table (next thread_cell_at.tree) → (xs : List StoredCell) → next thread_cell_at.tree ≡ db thread_cell_at.tree ++ news → rows_that_count thread_cell_at news ≡ map cell_columns xs
+        → AreOfNewRun (λ (x : StoredCell). x.run) n t.cells xs → Differ cell_key xs → Holds (with_cells xs t) next
     cells_of_run only shaped xs behind news_are of_new new =
-        cells_behind only shaped xs behind news_are (of_runs (λ (x : CellRow). x.run) n t.cells xs of_new t held) (new_keys (λ (x : CellRow). x.run) n t.cells xs of_new cell_key (λ x y same. head_same same) new)
+        cells_behind only shaped xs behind news_are (of_runs (λ (x : StoredCell). x.run) n t.cells xs of_new t held) (new_keys (λ (x : StoredCell). x.run) n t.cells xs of_new cell_key (λ x y same. head_same same) new)
 
-    pub calls_of_run : OnlyChanges schema_two db next arc_at → IsShaped shape.Table (next arc_at.tree) → (xs : List CallRow) → next arc_at.tree ≡ db arc_at.tree ++ news → rows_that_count arc_at news ≡ map arc_columns xs
-        → AreOfNewRun (λ (x : CallRow). x.run) n t.calls xs → Differ call_key xs → Holds (with_calls xs t) next
+    pub calls_of_run : OnlyChanges schema_two db next arc_at → IsShaped shape.Table (next arc_at.tree) → (xs : List StoredCall) → next arc_at.tree ≡ db arc_at.tree ++ news → rows_that_count arc_at news ≡ map arc_columns xs
+        → AreOfNewRun (λ (x : StoredCall). x.run) n t.calls xs → Differ call_key xs → Holds (with_calls xs t) next
     calls_of_run only shaped xs behind news_are of_new new =
-        calls_behind only shaped xs behind news_are (of_runs (λ (x : CallRow). x.run) n t.calls xs of_new t held) (new_keys (λ (x : CallRow). x.run) n t.calls xs of_new call_key (λ x y same. head_same same) new)
+        calls_behind only shaped xs behind news_are (of_runs (λ (x : StoredCall). x.run) n t.calls xs of_new t held) (new_keys (λ (x : StoredCall). x.run) n t.calls xs of_new call_key (λ x y same. head_same same) new)
 
-    pub stacks_of_run : OnlyChanges schema_two db next stack_at → IsShaped shape.Table (next stack_at.tree) → (xs : List StackRow) → next stack_at.tree ≡ db stack_at.tree ++ news → rows_that_count stack_at news ≡ map stack_columns xs
-        → AreOfNewRun (λ (x : StackRow). x.run) n t.stacks xs → Differ stack_key xs → Holds (with_stacks xs t) next
+    pub stacks_of_run : OnlyChanges schema_two db next stack_at → IsShaped shape.Table (next stack_at.tree) → (xs : List StoredStack) → next stack_at.tree ≡ db stack_at.tree ++ news → rows_that_count stack_at news ≡ map stack_columns xs
+        → AreOfNewRun (λ (x : StoredStack). x.run) n t.stacks xs → Differ stack_key xs → Holds (with_stacks xs t) next
     stacks_of_run only shaped xs behind news_are of_new new =
-        stacks_behind only shaped xs behind news_are (of_runs (λ (x : StackRow). x.run) n t.stacks xs of_new t held) (new_keys (λ (x : StackRow). x.run) n t.stacks xs of_new stack_key (λ x y same. head_same same) new)
+        stacks_behind only shaped xs behind news_are (of_runs (λ (x : StoredStack). x.run) n t.stacks xs of_new t held) (new_keys (λ (x : StoredStack). x.run) n t.stacks xs of_new stack_key (λ x y same. head_same same) new)

@@ -23,7 +23,7 @@ use Rattle.sqlite_rules.proofs.ProbeLemmas.{has_mapped}
 use Rattle.sql_tables.proofs.Deletes.{row_of}
 use Rattle.sql_tables.proofs.Rows.{filter_same_on, id_of}
 use Rattle.plain_tables.specs.Changes.{has_baseline, has_run, is_baseline, unbased, without_run}
-use Rattle.plain_tables.specs.Tables.{Tables, RunRow, EventRow, DerivedRow, CoefRow, CellRow, CallRow, StackRow, GroupRow, MemberRow}
+use Rattle.plain_tables.specs.Tables.{Tables, RunRow, EventRow, DerivedRow, CoefRow, StoredCell, StoredCall, StoredStack, GroupRow, MemberRow}
 use Rattle.store_schema.specs.Schema.{schema_two, to, run_at, run_event_at, derived_at, coef_at, thread_cell_at, arc_at, stack_at, grp_at, member_at}
 use Rattle.store_schema.specs.Tables.{Holds, run_columns, event_columns, derived_columns, coef_columns, cell_columns, arc_columns, stack_columns, group_columns, member_columns, number, number_or_null}
 use Rattle.store_schema.proofs.Sound.{sound_of}
@@ -84,21 +84,21 @@ module _ (t : Tables) (db next : Trees) (was : Holds t db) (n : ℕ) (keep : Row
   }
 
   pub cells_taken_out : OnlyChanges schema_two db next thread_cell_at → IsShaped shape.Table (next thread_cell_at.tree) → next thread_cell_at.tree ≡ filter keep (db thread_cell_at.tree)
-      → ((id : ℤ) (x : CellRow) → Has (db thread_cell_at.tree) (Int id ∷ cell_columns x) → keep (Int id ∷ cell_columns x) ≡ not (x.run == n)) → Holds (record t { cells = filter (λ (x : CellRow). not (x.run == n)) t.cells }) next
+      → ((id : ℤ) (x : StoredCell) → Has (db thread_cell_at.tree) (Int id ∷ cell_columns x) → keep (Int id ∷ cell_columns x) ≡ not (x.run == n)) → Holds (record t { cells = filter (λ (x : StoredCell). not (x.run == n)) t.cells }) next
   cells_taken_out only shaped left same = record {
     contain = lines_filtered t db was 10 thread_cell_at cell_columns t.cells refl refl next refl only shaped keep (λ x. not (x.run == n)) left same (no_cells_refer next);
     below = was.below;
   }
 
   pub calls_taken_out : OnlyChanges schema_two db next arc_at → IsShaped shape.Table (next arc_at.tree) → next arc_at.tree ≡ filter keep (db arc_at.tree)
-      → ((id : ℤ) (x : CallRow) → Has (db arc_at.tree) (Int id ∷ arc_columns x) → keep (Int id ∷ arc_columns x) ≡ not (x.run == n)) → Holds (record t { calls = filter (λ (x : CallRow). not (x.run == n)) t.calls }) next
+      → ((id : ℤ) (x : StoredCall) → Has (db arc_at.tree) (Int id ∷ arc_columns x) → keep (Int id ∷ arc_columns x) ≡ not (x.run == n)) → Holds (record t { calls = filter (λ (x : StoredCall). not (x.run == n)) t.calls }) next
   calls_taken_out only shaped left same = record {
     contain = lines_filtered t db was 6 arc_at arc_columns t.calls refl refl next refl only shaped keep (λ x. not (x.run == n)) left same (no_calls_refer next);
     below = was.below;
   }
 
   pub stacks_taken_out : OnlyChanges schema_two db next stack_at → IsShaped shape.Table (next stack_at.tree) → next stack_at.tree ≡ filter keep (db stack_at.tree)
-      → ((id : ℤ) (x : StackRow) → Has (db stack_at.tree) (Int id ∷ stack_columns x) → keep (Int id ∷ stack_columns x) ≡ not (x.run == n)) → Holds (record t { stacks = filter (λ (x : StackRow). not (x.run == n)) t.stacks }) next
+      → ((id : ℤ) (x : StoredStack) → Has (db stack_at.tree) (Int id ∷ stack_columns x) → keep (Int id ∷ stack_columns x) ≡ not (x.run == n)) → Holds (record t { stacks = filter (λ (x : StoredStack). not (x.run == n)) t.stacks }) next
   stacks_taken_out only shaped left same = record {
     contain = lines_filtered t db was 7 stack_at stack_columns t.stacks refl refl next refl only shaped keep (λ x. not (x.run == n)) left same (no_stacks_refer next);
     below = was.below;
@@ -145,16 +145,16 @@ module _ (t : Tables) (db next : Trees) (was : Holds t db) (n : ℕ) (unused : I
       (λ x there. (all_has (λ (y : CoefRow). has_run t y.run ≡ true) t.coefs x (sound_of t db was).coefs there, is_other (λ (y : CoefRow). y.run) t.coefs n x unused.coefs there))
 
   still_cells : (row : Row) → Has (next thread_cell_at.tree) row → has_parent schema_two.tables next row (to (codes "run") 1) ≡ true
-  still_cells = still_of thread_cell_at cell_columns (λ (x : CellRow). x.run) t.cells 1 (to (codes "run") 1) (run_key 1) refl (λ id x. refl) (lines_there t db was 10 thread_cell_at cell_columns t.cells refl refl) (other_stays db next run_at only 10 thread_cell_at refl refl)
-      (λ x there. (all_has (λ (y : CellRow). has_run t y.run ≡ true) t.cells x (sound_of t db was).cells there, is_other (λ (y : CellRow). y.run) t.cells n x unused.cells there))
+  still_cells = still_of thread_cell_at cell_columns (λ (x : StoredCell). x.run) t.cells 1 (to (codes "run") 1) (run_key 1) refl (λ id x. refl) (lines_there t db was 10 thread_cell_at cell_columns t.cells refl refl) (other_stays db next run_at only 10 thread_cell_at refl refl)
+      (λ x there. (all_has (λ (y : StoredCell). has_run t y.run ≡ true) t.cells x (sound_of t db was).cells there, is_other (λ (y : StoredCell). y.run) t.cells n x unused.cells there))
 
   still_calls : (row : Row) → Has (next arc_at.tree) row → has_parent schema_two.tables next row (to (codes "run") 1) ≡ true
-  still_calls = still_of arc_at arc_columns (λ (x : CallRow). x.run) t.calls 1 (to (codes "run") 1) (run_key 1) refl (λ id x. refl) (lines_there t db was 6 arc_at arc_columns t.calls refl refl) (other_stays db next run_at only 6 arc_at refl refl)
-      (λ x there. (all_has (λ (y : CallRow). has_run t y.run ≡ true) t.calls x (sound_of t db was).calls there, is_other (λ (y : CallRow). y.run) t.calls n x unused.calls there))
+  still_calls = still_of arc_at arc_columns (λ (x : StoredCall). x.run) t.calls 1 (to (codes "run") 1) (run_key 1) refl (λ id x. refl) (lines_there t db was 6 arc_at arc_columns t.calls refl refl) (other_stays db next run_at only 6 arc_at refl refl)
+      (λ x there. (all_has (λ (y : StoredCall). has_run t y.run ≡ true) t.calls x (sound_of t db was).calls there, is_other (λ (y : StoredCall). y.run) t.calls n x unused.calls there))
 
   still_stacks : (row : Row) → Has (next stack_at.tree) row → has_parent schema_two.tables next row (to (codes "run") 1) ≡ true
-  still_stacks = still_of stack_at stack_columns (λ (x : StackRow). x.run) t.stacks 1 (to (codes "run") 1) (run_key 1) refl (λ id x. refl) (lines_there t db was 7 stack_at stack_columns t.stacks refl refl) (other_stays db next run_at only 7 stack_at refl refl)
-      (λ x there. (all_has (λ (y : StackRow). has_run t y.run ≡ true) t.stacks x (sound_of t db was).stacks there, is_other (λ (y : StackRow). y.run) t.stacks n x unused.stacks there))
+  still_stacks = still_of stack_at stack_columns (λ (x : StoredStack). x.run) t.stacks 1 (to (codes "run") 1) (run_key 1) refl (λ id x. refl) (lines_there t db was 7 stack_at stack_columns t.stacks refl refl) (other_stays db next run_at only 7 stack_at refl refl)
+      (λ x there. (all_has (λ (y : StoredStack). has_run t y.run ≡ true) t.stacks x (sound_of t db was).stacks there, is_other (λ (y : StoredStack). y.run) t.stacks n x unused.stacks there))
 
   still_members : (row : Row) → Has (next member_at.tree) row → has_parent schema_two.tables next row (to (codes "run") 2) ≡ true
   still_members = still_of member_at member_columns (λ (m : MemberRow). m.run) t.members 2 (to (codes "run") 2) (run_key 2) refl (λ id x. refl) (members_lined t db was) (other_stays db next run_at only 9 member_at refl refl)
@@ -225,9 +225,9 @@ unused_but_its_row n t = record {
   events = none_left (λ (x : EventRow). x.run == n) t.events;
   derived = none_left (λ (x : DerivedRow). x.run == n) t.derived;
   coefs = none_left (λ (x : CoefRow). x.run == n) t.coefs;
-  cells = none_left (λ (x : CellRow). x.run == n) t.cells;
-  calls = none_left (λ (x : CallRow). x.run == n) t.calls;
-  stacks = none_left (λ (x : StackRow). x.run == n) t.stacks;
+  cells = none_left (λ (x : StoredCell). x.run == n) t.cells;
+  calls = none_left (λ (x : StoredCall). x.run == n) t.calls;
+  stacks = none_left (λ (x : StoredStack). x.run == n) t.stacks;
   members = none_left (λ (x : MemberRow). x.run == n) t.members;
   groups = none_based n t.groups;
 }

@@ -4,7 +4,7 @@ use Rattle.std.specs.List.{AllByRecursion, list_any}
 use Rattle.std.specs.Ordering.{is_eq}
 use Rattle.sqlite_value.specs.Order.{Row, row_cmp}
 use Rattle.plain_tables.specs.Lists.{IsAscending}
-use Rattle.plain_tables.specs.Tables.{EventRow, DerivedRow, CoefRow, CellRow, CallRow, StackRow, MemberRow}
+use Rattle.plain_tables.specs.Tables.{EventRow, DerivedRow, CoefRow, StoredCell, StoredCall, StoredStack, MemberRow}
 
 -- the keys of lines differ from one another and from the keys that are there
 pub record AreNew {X : Type 0} (key : X → List ℕ) (olds news : List X) : Type 0 where
@@ -45,11 +45,11 @@ derived_name_key d = d.run ∷ d.name
 abbrev pub coef_key : CoefRow → List ℕ
 coef_key c = c.run ∷ c.place ∷ c.event ∷ []
 
-abbrev pub cell_key : CellRow → List ℕ
+abbrev pub cell_key : StoredCell → List ℕ
 cell_key c = c.run ∷ c.function ∷ c.line ∷ c.file ∷ c.object ∷ c.thread ∷ c.event ∷ []
 
-abbrev pub call_key : CallRow → List ℕ
+abbrev pub call_key : StoredCall → List ℕ
 call_key a = a.run ∷ a.object ∷ a.file ∷ a.function ∷ a.line ∷ a.called_object ∷ a.called_file ∷ a.called_function ∷ a.part ∷ []
 
-abbrev pub stack_key : StackRow → List ℕ
+abbrev pub stack_key : StoredStack → List ℕ
 stack_key s = s.run ∷ s.frames

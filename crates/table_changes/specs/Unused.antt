@@ -2,16 +2,16 @@
 use Rattle.std.specs.Prelude.{◌≡◌, ℕ, false, ◌==◌, if◌then◌else◌}
 use Rattle.std.specs.List.{list_any}
 use Rattle.plain_tables.specs.Changes.{has_baseline, unbased, without_run}
-use Rattle.plain_tables.specs.Tables.{Tables, EventRow, DerivedRow, CoefRow, CellRow, CallRow, StackRow, GroupRow, MemberRow}
+use Rattle.plain_tables.specs.Tables.{Tables, EventRow, DerivedRow, CoefRow, StoredCell, StoredCall, StoredStack, GroupRow, MemberRow}
 
 -- no line is of the run, and no group has it as a member or as its baseline
 pub record IsUnused (n : ℕ) (t : Tables) : Type 0 where
   pub events : list_any (λ (e : EventRow). e.run == n) t.events ≡ false
   pub derived : list_any (λ (d : DerivedRow). d.run == n) t.derived ≡ false
   pub coefs : list_any (λ (c : CoefRow). c.run == n) t.coefs ≡ false
-  pub cells : list_any (λ (c : CellRow). c.run == n) t.cells ≡ false
-  pub calls : list_any (λ (a : CallRow). a.run == n) t.calls ≡ false
-  pub stacks : list_any (λ (s : StackRow). s.run == n) t.stacks ≡ false
+  pub cells : list_any (λ (c : StoredCell). c.run == n) t.cells ≡ false
+  pub calls : list_any (λ (a : StoredCall). a.run == n) t.calls ≡ false
+  pub stacks : list_any (λ (s : StoredStack). s.run == n) t.stacks ≡ false
   pub groups : list_any (has_baseline n) t.groups ≡ false
   pub members : list_any (λ (m : MemberRow). m.run == n) t.members ≡ false
 

@@ -6,7 +6,7 @@ use callgrind_reader::Reader;
 use cg_formulas::{FileHead, Flat};
 use cg_text::{ListVec, fields};
 use cost_reports::verify;
-use cost_rows::{CallEdge, Cell, FileRows};
+use cost_rows::{ArcRow, CellRow, FileRows};
 use run_stores::RunStore;
 use shared_texts::SharedText;
 use std::alloc::{AllocError, Global};
@@ -62,7 +62,7 @@ fn rows_of(alloc: Global, text: &'static [u8]) -> Result<FileRows, Fail> {
 }
 
 /// Whether a row is the cost of an event at line 16 of `main`.
-fn is_cost(row: Option<Cell<&[u8]>>, event: usize, cost: u128) -> bool {
+fn is_cost(row: Option<CellRow<&[u8]>>, event: usize, cost: u128) -> bool {
     let Some(row) = row else {
         return false;
     };
@@ -75,7 +75,7 @@ fn is_cost(row: Option<Cell<&[u8]>>, event: usize, cost: u128) -> bool {
 }
 
 /// Whether a row is the three calls from line 17 of `main` to `g`.
-fn is_call(row: Option<CallEdge<&[u8], &[u128]>>) -> bool {
+fn is_call(row: Option<ArcRow<&[u8], &[u128]>>) -> bool {
     let Some(row) = row else {
         return false;
     };
@@ -94,7 +94,7 @@ pub fn rows_of_a_file_have_their_names(alloc: Global) -> Result<(), Fail> {
     holds(is_cost(cells.next(), 0, 20), "another first cost")?;
     holds(is_cost(cells.next(), 1, 1), "another second cost")?;
     holds(cells.next().is_none(), "one cost more")?;
-    let mut calls = rows.calls();
+    let mut calls = rows.arcs();
     holds(is_call(calls.next()), "another call")?;
     holds(calls.next().is_none(), "one call more")?;
     Ok(())

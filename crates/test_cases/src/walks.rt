@@ -2,7 +2,7 @@
 use crate::holding::holds;
 use crate::stores::filled;
 use cg_text::ListVec;
-use cost_rows::{CallEdge, Cell};
+use cost_rows::{ArcRow, CellRow};
 use held_runs::{
     CallSink, CellSink, HeldNames, NameTable, baseline_of, each_call, each_cell, kind_of,
     members_of, names_of, sums_of,
@@ -39,7 +39,7 @@ impl CellSink for CellSums<'_> {
 
     ghost step = { λ _ _. tt };
 
-    fn take(&mut self, cell: &Cell<u32>) -> Result<(), StoreError> {
+    fn take(&mut self, cell: &CellRow<u32>) -> Result<(), StoreError> {
         let names = self.names;
         if is_named(names, cell.object, b"a") && is_named(names, cell.file, b"b") {
             self.of_a = self.of_a.saturating_add(cell.cost);
@@ -86,7 +86,7 @@ impl CallSink for CallSums<'_> {
 
     ghost step = { λ _ _. tt };
 
-    fn take(&mut self, call: CallEdge<u32, ListVec<u128>>) -> Result<(), StoreError> {
+    fn take(&mut self, call: ArcRow<u32, ListVec<u128>>) -> Result<(), StoreError> {
         let names = self.names;
         if is_named(names, call.called_object, b"g")
             && is_named(names, call.called_file, b"c")

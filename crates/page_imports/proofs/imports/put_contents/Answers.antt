@@ -4,7 +4,7 @@ use Rattle.std.proofs.lemmas.Result.{err_from_is_err_and}
 use Rattle.cost_rows.specs.Rows.{content_of}
 use Rattle.sqlite_pool.specs.StoredLaws.{Keeps-trans}
 use Rattle.page_places.proofs.Failing.{store_fails_later}
-use Rattle.plain_tables.specs.Tables.{RunRow, CellRow, CallRow, StackRow}
+use Rattle.plain_tables.specs.Tables.{RunRow, StoredCell, StoredCall, StoredStack}
 use Rattle.row_writes.proofs.Outcomes.{match_result}
 use Rattle.store_schema.specs.Lines.{run_row}
 use Rattle.store_schema.proofs.Sound.{sound_of}
@@ -35,9 +35,9 @@ returns-clause-done g c clean = λ wanted known was t shows are can.
     match_result c.put_rows.result (λ (made : HasMade row_tables wanted known was head.shows.next _ last). record { shows = made.shows; kept = kept_then head_tables row_tables _ _ _ head.kept made.kept })
     (λ e. store_fails_later c.args.file.now c.put_head.new.file last e c.put_head.ensures.keeps (λ (fits : CanBeFiled filed t shows.next). rows_still n content _ fits.rows head.kept))
     (c.put_rows.ensures.done clean wanted known was _ head.shows are (record {
-      cells = record { held = held; none = no_lines t n new (λ (c : CellRow). c.run) t.cells sound.cells };
-      calls = record { held = held; none = no_lines t n new (λ (a : CallRow). a.run) t.calls sound.calls };
-      stacks = record { held = held; none = no_lines t n new (λ (s : StackRow). s.run) t.stacks sound.stacks };
+      cells = record { held = held; none = no_lines t n new (λ (c : StoredCell). c.run) t.cells sound.cells };
+      calls = record { held = held; none = no_lines t n new (λ (a : StoredCall). a.run) t.calls sound.calls };
+      stacks = record { held = held; none = no_lines t n new (λ (s : StoredStack). s.run) t.stacks sound.stacks };
     }))
 
 pub returns-clause-keeps : goal.returns-clause-keeps

@@ -5,7 +5,7 @@ use Rattle.std.proofs.lemmas.List.Concat.{flat_map_single}
 use Rattle.cost_rows.specs.Plain.{plain_stack}
 use Rattle.cost_rows.specs.Rows.{content_of}
 use Rattle.cost_rows.specs.Walks.{counted_stacks}
-use Rattle.cost_rows.specs.declared.rows.StackCount.{StackCount}
+use Rattle.cost_rows.specs.declared.rows.StackRow.{StackRow}
 use Rattle.run_lines.specs.Fits.{StacksFit}
 use Rattle.run_lines.specs.FromRows.{line_of_stack}
 use Rattle.run_lines.proofs.RowLines.{plain_line_of_stack, rows_drained, rows_of_stacks, stacks_are}
@@ -24,6 +24,6 @@ returns-in_default-clause-refused c =
     let gives = YieldsList-at c.into_iter-row-iterator.ensures.into_iter_gives (YieldsList-from_first plain_stack (λ s. s) (counted_stacks stacks) c.stacks-row-items.ensures) in
     let turn = YieldsList-turn gives c.rows.yielded _ c.rows.yielded_by _ _ c.in-Some.row c.in-Some.is c.next.ensures.steps in
     λ (fits : StacksFit stacks).
-    let small = subst (λ (s : StackCount (List ℕ)). s.count < 2 ^ 63) (sym turn.1) (fits (length c.rows.yielded) (plain_stack c.in-Some.row) turn.0) in
+    let small = subst (λ (s : StackRow (List ℕ)). s.count < 2 ^ 63) (sym turn.1) (fits (length c.rows.yielded) (plain_stack c.in-Some.row) turn.0) in
     let great : 2 ^ 63 ≤ c.in-Some.row.count = search rules in
     omega (arith, small, great)

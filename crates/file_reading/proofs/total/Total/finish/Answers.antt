@@ -3,8 +3,8 @@ use Rattle.std.proofs.lemmas.Grind.{fold-append}
 use Rattle.std.proofs.lemmas.Result.{IfOk-weaker}
 use Rattle.cg_text.specs.Errors.{error_text}
 use Rattle.cg_text.specs.declared.faults.Fault as faults
-use Rattle.cg_text.specs.declared.faults.ReadError.{ReadError}
-use Rattle.cg_text.specs.declared.faults.ReadError.TheVariants.{Fault}
+use Rattle.cg_text.specs.declared.faults.ReadEnd.{ReadEnd}
+use Rattle.cg_text.specs.declared.faults.ReadEnd.TheVariants.{Fault}
 use Rattle.callgrind_reader.specs.Files.{records_of_file, fault_of_file}
 use Rattle.callgrind_reader.specs.Reads.{Ended}
 use Rattle.file_reading.specs.declared.total.TotalText.{TotalText}
@@ -29,7 +29,7 @@ returns c = λ text (told, reads, summed).
     }
 
 -- the file's first fault
-first_fault : (end : ReadError) (fault : faults.Fault) (line : ℕ) (text : List ℕ) → end ≡ Fault fault line → Ended (Err end) text → fault_of_file text ≡ Some (fault, line)
+first_fault : (end : ReadEnd) (fault : faults.Fault) (line : ℕ) (text : List ℕ) → end ≡ Fault fault line → Ended (Err end) text → fault_of_file text ≡ Some (fault, line)
 first_fault end fault line text is ended = rw is at ended
 
 -- a refusal is no acceptance

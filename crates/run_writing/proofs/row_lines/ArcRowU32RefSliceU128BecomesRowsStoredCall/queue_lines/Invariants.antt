@@ -4,7 +4,7 @@ use Rattle.plain_tables.specs.Changes.{with_calls}
 use Rattle.prof_books.specs.Files.{call_rows_from}
 use Rattle.run_lines.specs.FromRows.{call_of_call, part_line}
 use Rattle.run_writing.specs.Queues.{Queues}
-use Rattle.run_writing.proofs.row_lines.CallEdgeU32RefSliceU128BecomesRowsCallRow.queue_lines.Given as goal
+use Rattle.run_writing.proofs.row_lines.ArcRowU32RefSliceU128BecomesRowsStoredCall.queue_lines.Given as goal
 
 -- the calls' number and the costs so far are taken up
 abbrev pub invariant-costs : goal.invariant-costs

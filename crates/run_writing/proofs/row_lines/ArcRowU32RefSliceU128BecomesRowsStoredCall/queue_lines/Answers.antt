@@ -10,7 +10,7 @@ use Rattle.store_schema.specs.Lines.{call_row}
 use Rattle.store_schema.proofs.Within.{then_refused}
 use Rattle.run_writing.proofs.Queueing.{queues_then, queues_err}
 use Rattle.run_lines.proofs.RowLines.{parts_more}
-use Rattle.run_writing.proofs.row_lines.CallEdgeU32RefSliceU128BecomesRowsCallRow.queue_lines.Goals as goal
+use Rattle.run_writing.proofs.row_lines.ArcRowU32RefSliceU128BecomesRowsStoredCall.queue_lines.Goals as goal
 
 pub costs-preserved : goal.costs-preserved
 costs-preserved g c =
