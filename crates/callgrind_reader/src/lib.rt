@@ -42,5 +42,6 @@ mod totals;
 
 pub use laws::{handed_on_at_each_moment, looking_back_is_exact};
 pub use layouts::Layout;
+pub use profile_records::{CallCost, LentName, LentNames, Mark, SelfCost, Sink};
 pub use reader::Reader;
 pub use text_pieces::FILE_LIMIT;

@@ -24,3 +24,4 @@ pub use flats::{Flat, FlatEnd};
 pub use formulas::Formulas;
 pub use heads::FileHead;
 pub use laws::{a_repeat_changes_nothing, coefficients_give_the_values, values_add_up};
+pub use terms::SplitTerms;

@@ -6,6 +6,7 @@ ghost use Rattle.cg_text.specs.Numbers.{is_digit};
 ghost use Rattle.cg_formulas.specs.EventLines.{ends_name, ends_term, is_term_name, times, factor, behind_star, counted, term_of, is_plus, with_first, formula_of};
 ghost use Rattle.cg_formulas.specs.EventViews.{plain_term, terms_in, terms_behind, formula_behind};
 
+use crate::event_lines::Formula;
 use cg_text::{is_blank, is_digit, trim_end, trim_start, value_in};
 use memchr::memchr;
 use std::marker::Model;
@@ -142,9 +143,9 @@ pub(crate) fn is_formula(text: &[u8]) -> bool
     true
 }
 
-/// The terms of a text, from the first on, up to a part that is none.
+/// The terms of a text, from the first on, up to a part that is none: numbers, capped at 2^64 - 1, and names of events.
 #[derive(Drop)]
-pub(crate) struct SplitTerms<'a> {
+pub struct SplitTerms<'a> {
     rest: Option<&'a [u8]>,
 }
 
@@ -163,6 +164,15 @@ pub(crate) fn terms(text: &[u8]) -> SplitTerms<'_>
     ensures { result ≡ terms_in text.now }
 {
     SplitTerms { rest: Some(text) }
+}
+
+impl Formula {
+    /// Its terms: how often the event of a name counts, at most 2^64 - 1 times, and that name. Takes no memory.
+    pub fn terms(&self) -> SplitTerms<'_>
+        ensures { result ≡ terms_in self.now.text }
+    {
+        terms(self.text.as_slice())
+    }
 }
 
 impl<'a> Iterator for SplitTerms<'a> {

@@ -115,6 +115,36 @@ impl<'a> Model for CallReport<'a> {
     ghost view = { λ r. record { side = r.side; function = lent_place r.function; rows = plain_calls r.rows.items; total = r.total } };
 }
 
+impl<'a> CallReport<'a> {
+    /// Whether it is of the callers of the function, or of those that it calls.
+    pub fn side(&self) -> CallSide
+        ensures { result ≡ self.now.side }
+    {
+        self.side
+    }
+
+    /// The function whose calls they are.
+    pub fn function(&self) -> LentPlace<'a>
+        ensures { lent_place result ≡ self.now.function }
+    {
+        self.function
+    }
+
+    /// The functions on the other side of the calls, the greatest cost first.
+    pub fn rows(&self) -> &[CallRow<'a>]
+        ensures { plain_calls result.now ≡ self.now.rows }
+    {
+        &self.rows
+    }
+
+    /// What all these calls cost, and how many there were.
+    pub fn total(&self) -> Pair
+        ensures { result ≡ self.now.total }
+    {
+        self.total
+    }
+}
+
 /// The functions on the other side with their sums, in order.
 fn call_rows<'n>(alloc: Global, sums: &PairSums<'n>) -> Result<Vec<CallRow<'n>>, AllocError>
     ensures { IfOk result (λ rows. plain_calls rows.items ≡ sums.now) }

@@ -35,6 +35,29 @@ impl<'a> Model for Difference<'a> {
     ghost view = { λ d. record { key = d.key; rows = plain_differences d.rows.items; total = d.total } };
 }
 
+impl<'a> Difference<'a> {
+    /// What it is by.
+    pub fn key(&self) -> Key
+        ensures { result ≡ self.now.key }
+    {
+        self.key
+    }
+
+    /// The parts of places whose costs differ, the greatest difference first.
+    pub fn rows(&self) -> &[DifferenceRow<'a>]
+        ensures { plain_differences result.now ≡ self.now.rows }
+    {
+        &self.rows
+    }
+
+    /// The cost of the first rows less that of the second.
+    pub fn total(&self) -> Signed
+        ensures { result ≡ self.now.total }
+    {
+        self.total
+    }
+}
+
 /// A cost on one side, and none on the other.
 fn pair_on(side: Side, cost: u128) -> Pair
     ensures { result ≡ pair_on side cost }

@@ -169,6 +169,23 @@ impl<'a> Model for InclusiveReport<'a> {
     ghost view = { λ r. record { rows = plain_rows r.rows.items; total = r.total } };
 }
 
+impl<'a> InclusiveReport<'a> {
+    /// The functions with their inclusive costs, the greatest first.
+    pub fn rows(&self) -> &[Row<'a>]
+        ensures { plain_rows result.now ≡ self.now.rows }
+    {
+        &self.rows
+    }
+
+    /// What all functions cost by themselves.
+    pub fn total(&self) -> u128
+        ensures value { result ≡ self.now.total }
+        ensures small { result < 2 ^ 112 }
+    {
+        self.total
+    }
+}
+
 /// The inclusive costs of functions. Memory is the only refusal.
 pub fn inclusive<'n>(
     alloc: Global,

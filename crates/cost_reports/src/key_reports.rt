@@ -34,6 +34,37 @@ impl<'a> Model for Report<'a> {
     ghost view = { λ r. record { key = r.key; rows = plain_rows r.rows.items; rest = r.rest; total = r.total } };
 }
 
+impl<'a> Report<'a> {
+    /// What it is by.
+    pub fn key(&self) -> Key
+        ensures { result ≡ self.now.key }
+    {
+        self.key
+    }
+
+    /// The rows that are shown, the greatest cost first.
+    pub fn rows(&self) -> &[Row<'a>]
+        ensures { plain_rows result.now ≡ self.now.rows }
+    {
+        &self.rows
+    }
+
+    /// What the rows that are not shown cost.
+    pub fn rest(&self) -> u128
+        ensures { result ≡ self.now.rest }
+    {
+        self.rest
+    }
+
+    /// What all rows cost, those that are not shown included.
+    pub fn total(&self) -> u128
+        ensures value { result ≡ self.now.total }
+        ensures small { result < 2 ^ 112 }
+    {
+        self.total
+    }
+}
+
 /// The report of sums that add up to `total`, of which `sums` are enough for the cut: each part of a
 /// place once, in any order. Memory is the only refusal.
 pub fn by<'a>(
@@ -45,7 +76,8 @@ pub fn by<'a>(
 ) -> Result<Report<'a>, AllocError>
     requires small { total < 2 ^ 112 }
     requires within { total_of (given_sums sums.now) ≤ total }
-    ensures { IfOk result (λ report. (all : List (Spot × ℕ)) → total_of all ≡ total → AreEnough (λ e. e.1) cut all (given_sums sums.now) → report ≡ report_of key cut all) }
+    ensures { IfOk result (λ report. (all : List (Spot × ℕ)) → total_of all ≡ total → AreEnough (λ e. e.1) cut all (given_sums sums.now)
+        → report ≡ report_of key cut all) }
 {
     let rows = shown_rows(alloc, sums, total, cut)?;
     let rest = total - cost_of(&rows);

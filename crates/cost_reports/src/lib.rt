@@ -58,5 +58,7 @@ pub use laws::{
 };
 pub use lengths::{check_length, whole_text};
 pub use lent_sums::LentSums;
-pub use report_texts::{CallSide, Cut};
-pub use verifying::{Verification, verify};
+pub use places::LentPlace;
+pub use report_texts::{CallSide, Cut, Pair, Signed};
+pub use rows::{CallRow, DifferenceRow, Row};
+pub use verifying::{Check, Verification, verify};

@@ -9,12 +9,12 @@ use cost_rows::{CellRow, Key};
 
 /// A place by names that are lent; the parts outside a key are `???` and 0.
 #[derive(Clone, Copy, PartialEq, Eq, PartialOrd, Ord)]
-pub(crate) struct LentPlace<'a> {
-    pub(crate) object: &'a [u8],
-    pub(crate) file: &'a [u8],
-    pub(crate) function: &'a [u8],
-    pub(crate) line: u64,
-    pub(crate) thread: u64,
+pub struct LentPlace<'a> {
+    pub object: &'a [u8],
+    pub file: &'a [u8],
+    pub function: &'a [u8],
+    pub line: u64,
+    pub thread: u64,
 }
 
 /// The place of a row.

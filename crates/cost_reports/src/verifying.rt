@@ -13,10 +13,10 @@ use std::marker::Model;
 
 /// The sum of an event, and the total that is stated of it, if one is.
 #[derive(Clone, Copy)]
-pub(crate) struct Check<'a> {
-    pub(crate) event: &'a [u8],
-    pub(crate) sum: u128,
-    pub(crate) stated: Option<u128>,
+pub struct Check<'a> {
+    pub event: &'a [u8],
+    pub sum: u128,
+    pub stated: Option<u128>,
 }
 
 /// A check for each event of a run, in the order of its file.
@@ -146,7 +146,21 @@ fn push_checks(
     Ok(())
 }
 
-impl Verification<'_> {
+impl<'a> Verification<'a> {
+    /// The number of the run.
+    pub fn run(&self) -> u32
+        ensures { result ≡ self.now.run }
+    {
+        self.run
+    }
+
+    /// The events with their sums, in the order of the file.
+    pub fn checks(&self) -> &[Check<'a>]
+        ensures { map plain_check result.now ≡ self.now.checks }
+    {
+        &self.checks
+    }
+
     /// Adds a line for each event to those of other runs, as long as the text has at most `most` bytes.
     pub fn push_text(&self, text: &mut Vec<u8>, most: usize) -> Result<(), AllocError>
         ensures { OnOk result (text.new.items ≡ text.old.items ++ verify_text self.now) }

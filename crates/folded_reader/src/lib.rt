@@ -14,6 +14,7 @@ mod stacks;
 mod state;
 
 pub use laws::{handed_on_at_each_moment, looking_back_is_exact, the_leaf_is_the_last_function};
+pub use profile_records::StackSink;
 pub use reader::FoldedReader;
 pub use stacks::{Stack, read_stack};
 pub use text_pieces::FILE_LIMIT;

@@ -91,7 +91,8 @@ pub fn tables_represent_each_run()
 /// events, its derived events with their coefficients, and the totals that it states. What is verified
 /// by such a head is what is verified by the file.
 pub fn tables_represent_each_head()
-    ensures told { (h : History) (t : Tables) (f : File) (head : FileHead) → TablesRepresent h t → Has (held h) f → IsHeadIn f.number t head → HeadAgrees f head }
+    ensures told { (h : History) (t : Tables) (f : File) (head : FileHead) → TablesRepresent h t → Has (held h) f → IsHeadIn f.number t head
+        → HeadAgrees f head }
     ensures verified { (f : File) (head : FileHead) (run : ℕ) (sums : List ℕ)
         → HeadAgrees f head → verified run head.events sums head.stated ≡ verified run (events_of f.format f.bytes) sums (stated_of f.format f.bytes) }
 {}
@@ -124,8 +125,10 @@ pub fn tables_represent_the_lists<E>()
 /// read failed in both or in none, and that both ended or did not, expect the same answer; and tables
 /// represent a history with the one where they represent it with the other.
 pub fn cuts_do_not_show()
-    ensures answers { (format : Format) (label : List ℕ) (xs ys : List Outcome) → AreAlike xs ys → AreExpectedAlike (Import format label xs) (Import format label ys) }
-    ensures tables { (format : Format) (label : List ℕ) (xs ys : List Outcome) → GaveSame xs ys → AreRepresentedAlike (Import format label xs) (Import format label ys) }
+    ensures answers { (format : Format) (label : List ℕ) (xs ys : List Outcome) → AreAlike xs ys
+        → AreExpectedAlike (Import format label xs) (Import format label ys) }
+    ensures tables { (format : Format) (label : List ℕ) (xs ys : List Outcome) → GaveSame xs ys
+        → AreRepresentedAlike (Import format label xs) (Import format label ys) }
 {}
 
 /// The mark of a history stays where it is: a history whose imports are all by the first grammar has it at

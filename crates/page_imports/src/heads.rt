@@ -162,7 +162,8 @@ pub(crate) fn put_head<D: Disk>(
     run: &RunRow<'_>,
     head: &HeadRows<'_>,
 ) -> Result<(), StoreError>
-    ensures done { Makes file.old file.new roots.now head_tables (CanBegin run.now head.now) (with_head_of run.now head.now) (λ _. CanPutHeadOf run.now head.now) result }
+    ensures done { Makes file.old file.new roots.now head_tables (CanBegin run.now head.now)
+        (with_head_of run.now head.now) (λ _. CanPutHeadOf run.now head.now) result }
     ensures usable { OnOk result (IsUsable file.new) }
     ensures keeps { Keeps (pools.state file.old.pool) (pools.state file.new.pool) }
 {

@@ -113,7 +113,8 @@ pub(crate) fn put_rows<D: Disk>(
     run: u32,
     rows: &FileRows,
 ) -> Result<(), StoreError>
-    ensures done { Makes file.old file.new roots.now row_tables (HasNoRow run) (with_rows run (content_of rows.now)) (CanPutRows run (content_of rows.now)) result }
+    ensures done { Makes file.old file.new roots.now row_tables (HasNoRow run)
+        (with_rows run (content_of rows.now)) (CanPutRows run (content_of rows.now)) result }
     ensures usable { OnOk result (IsUsable file.new) }
     ensures keeps { Keeps (pools.state file.old.pool) (pools.state file.new.pool) }
 {

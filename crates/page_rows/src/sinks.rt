@@ -24,8 +24,10 @@ pub trait RowSink {
     /// Takes a row: its rowid, and the bytes of its record, which `sqlite_record::fields` reads in place.
     /// Says whether it wants more. An error ends the walk, and nothing is said of what was taken then.
     fn take(&mut self, rowid: i64, payload: &[u8]) -> Result<bool, Self::Refusal>
-        ensures more { result ≡ Ok true → (start : Start) (rows : List Row) → Has start rows self.old → Has start (rows ++ table_row (rowid, payload.now) ∷ []) self.new }
-        ensures last { result ≡ Ok false → (start : Start) (rows : List Row) → Has start rows self.old → Ends start (rows ++ table_row (rowid, payload.now) ∷ []) self.new }
+        ensures more { result ≡ Ok true → (start : Start) (rows : List Row) → Has start rows self.old
+            → Has start (rows ++ table_row (rowid, payload.now) ∷ []) self.new }
+        ensures last { result ≡ Ok false → (start : Start) (rows : List Row) → Has start rows self.old
+            → Ends start (rows ++ table_row (rowid, payload.now) ∷ []) self.new }
         ensures refuses { IfErr result (Refuses (table_row (rowid, payload.now))) };
 }
 

@@ -49,7 +49,8 @@ impl<L: FromRecord + Drop> RowSink for Among<'_, L> {
 
     ghost Start = { List ℕ × List Row };
 
-    ghost Has = { λ start rows s. (s.numbers.now ≡ start.0) × (IsNonDecreasing start.0 → Rise rows → HasTaken L.columns L.seen start.0 start.1 rows s.at s.lines.items) };
+    ghost Has = { λ start rows s. (s.numbers.now ≡ start.0)
+        × (IsNonDecreasing start.0 → Rise rows → HasTaken L.columns L.seen start.0 start.1 rows s.at s.lines.items) };
 
     ghost Ends = { λ start rows s. IsNonDecreasing start.0 → Rise rows → HasTaken L.columns L.seen start.0 start.1 rows (length start.0) s.lines.items };
 

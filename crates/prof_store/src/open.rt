@@ -104,8 +104,10 @@ impl<S: Alter> Store<S> {
         ensures why { IfErr result (λ e. HasCleanDisk (state S.Store e.1) → IsOpenedBy S.Store conn e.1 (Err e.0)) }
         ensures opened { IfOk result (λ store. IsFaithful S.Store store → Opened true (state S.Store conn) (shown S.Store store)) }
         ensures refused { IfErr result (λ e. HasCleanDisk (state S.Store e.1) → Opened false (state S.Store conn) (state S.Store e.1)) }
-        ensures found { IfOk result (λ store. IsFaithful S.Store store → SaysSchema (state S.Store conn).now versions.First ⊎ SaysSchema (state S.Store conn).now versions.Second) }
-        ensures right { IfErr result (λ e. HasCleanDisk (state S.Store e.1) → IsStore (state S.Store conn) ⊎ IsFirstStore (state S.Store conn) → e.0 ≢ ends.WrongSchema) }
+        ensures found { IfOk result (λ store. IsFaithful S.Store store
+            → SaysSchema (state S.Store conn).now versions.First ⊎ SaysSchema (state S.Store conn).now versions.Second) }
+        ensures right { IfErr result (λ e. HasCleanDisk (state S.Store e.1) → IsStore (state S.Store conn) ⊎ IsFirstStore (state S.Store conn)
+            → e.0 ≢ ends.WrongSchema) }
     {
         match take_up(&mut conn) {
             Ok(()) => Ok(Store {

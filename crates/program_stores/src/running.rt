@@ -1,5 +1,6 @@
 // What the words of a command line say is done, over the files that they name.
-ghost use Rattle.std.specs.Prelude.{◌≤◌};
+ghost use Rattle.std.specs.Prelude.{◌≡◌, ◌≤◌};
+ghost use Rattle.program_stores.specs.Jobs as specs;
 
 use crate::beside::{Beside, look_beside, work_beside};
 use crate::reading::{StoreInPages, pages_at, pages_to_change_at};
@@ -44,7 +45,8 @@ impl<'a> Job<'_, 'a> {
 
     /// How many cells of small runs are kept in memory for it, 4 MB by a server.
     fn cells_to_keep(&self) -> usize
-        ensures { result ≤ 65536 }
+        ensures value { result ≡ specs.cells_to_keep self.now }
+        ensures few { result ≤ 65536 }
     {
         match self {
             Job::Run(_) => 0,
@@ -52,8 +54,10 @@ impl<'a> Job<'_, 'a> {
         }
     }
 
-    /// Whether it only reads.
-    fn only_reads(&self) -> bool {
+    /// Whether it changes nothing, whatever the store holds.
+    fn only_reads(&self) -> bool
+        ensures { result ≡ specs.changes_nothing self.now }
+    {
         match self {
             Job::Run(commands) => commands.iter().all(|command| command.only_reads()),
             Job::Serve(_) => false,

@@ -190,7 +190,8 @@ pub trait RunStore: StoreState {
         label: &str,
         file: &SummedFile<'_>,
     ) -> Result<(), StoreError>
-        ensures changes { ChangesIf Self.StoreState (is_ok result) (λ t. t.next ≡ number) (with_summed number kind digest.now label.now file.now) self.old self.new }
+        ensures changes { ChangesIf Self.StoreState (is_ok result) (λ t. t.next ≡ number)
+            (with_summed number kind digest.now label.now file.now) self.old self.new }
         ensures shut { KeepsShut Self.StoreState self.old self.new };
 
     /// Drops a run that is held, with all its rows. Groups lose it as a member and as a baseline;

@@ -161,7 +161,8 @@ impl<'a, R: Files + AllocGlobal, W: Write + Drop, S: RunStore> Session<'a, R, W,
     /// Does commands, one after another, and prints their answers. It stops where printing fails.
     pub fn run(&mut self, commands: &[WordsCommand<'a>]) -> io::Result<()>
         ensures limits { self.new.warehouse.limits ≡ self.old.warehouse.limits }
-        ensures done { IsFaithful S.StoreState self.new.warehouse.store → WasRun S.StoreState W.contents (Wants R.File.remaining commands.now) result self.old self.new }
+        ensures done { IsFaithful S.StoreState self.new.warehouse.store
+            → WasRun S.StoreState W.contents (Wants R.File.remaining commands.now) result self.old self.new }
     {
         for command in commands {
             self.perform(command)?;

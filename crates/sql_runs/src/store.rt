@@ -236,5 +236,6 @@ impl<S: Alter> RunStore for SqlRuns<S> {
     ghost use Rattle.sqlite.specs.Effect.{Database};
     ghost use Rattle.store_schema.specs.Tables.{Holds};
 
-    ghost survives = { λ t s db was may. subst (Holds t) (sym (S.settled s.store.conn.store db was.usable may ∙ ap (λ (d : Database). d.trees) was.settled)) was.holds };
+    ghost survives = { λ t s db was may. subst (Holds t) (sym (S.settled s.store.conn.store db was.usable may
+        ∙ ap (λ (d : Database). d.trees) was.settled)) was.holds };
 }

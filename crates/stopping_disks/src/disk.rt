@@ -5,7 +5,7 @@ ghost use Rattle.sqlite_disk.specs.Refusal.{finds_no_room};
 
 use sqlite_disk::{Disk, Tally, digest_of};
 use std::alloc::{AllocError, Global};
-use std::cell::CellRow;
+use std::cell::Cell;
 use std::io;
 use std::rc::Rc;
 
@@ -17,7 +17,7 @@ pub struct Stopping {
     /// What was synced last.
     pub(crate) synced: Vec<u8>,
     /// How many pieces of writes, cuts and syncs are still made, by all files that share it.
-    changes: Rc<CellRow<u64>>,
+    changes: Rc<Cell<u64>>,
     usable: bool,
     faults: u64,
     caught: u64,
@@ -29,7 +29,7 @@ impl Stopping {
         alloc: Global,
         bytes: &[u8],
         room: usize,
-        changes: Rc<CellRow<u64>>,
+        changes: Rc<Cell<u64>>,
     ) -> Result<Stopping, AllocError>
         ensures written { IfOk result (λ file. file.written.items ≡ bytes.now) }
         ensures synced { IfOk result (λ file. file.synced.items ≡ bytes.now) }
@@ -70,7 +70,7 @@ fn with_room(alloc: Global, bytes: &[u8], room: usize) -> Result<Vec<u8>, AllocE
 }
 
 /// Takes what a call needs of the changes that are left; where none is left, reads fail too.
-fn spend(changes: &CellRow<u64>, needed: u64, faults: &mut u64) -> io::Result<()>
+fn spend(changes: &Cell<u64>, needed: u64, faults: &mut u64) -> io::Result<()>
     ensures faults { CountsFault result faults.old faults.new }
     ensures kind { finds_no_room result ≡ false }
 {
@@ -87,7 +87,7 @@ const PIECE: usize = 4096;
 
 /// Takes what a write of so many bytes needs of the changes that are left, one for each piece. Where too few are left, the
 /// machine stops in the middle of it: behind so many bytes.
-fn stop_within(changes: &CellRow<u64>, len: usize) -> Option<usize>
+fn stop_within(changes: &Cell<u64>, len: usize) -> Option<usize>
     ensures { IfSome result (λ count. count ≤ len) }
 {
     let left = changes.get();

@@ -1,6 +1,6 @@
 // How many changes are still made of the files of a database.
 use std::alloc::{AllocError, Global};
-use std::cell::CellRow;
+use std::cell::Cell;
 use std::rc::Rc;
 
 /// Which files stop.
@@ -16,8 +16,8 @@ pub enum Stops {
 #[derive(Drop)]
 pub struct Meter {
     stops: Stops,
-    stopping: Rc<CellRow<u64>>,
-    other: Rc<CellRow<u64>>,
+    stopping: Rc<Cell<u64>>,
+    other: Rc<Cell<u64>>,
 }
 
 impl Meter {
@@ -25,8 +25,8 @@ impl Meter {
     pub fn new(alloc: Global, stops: Stops) -> Result<Meter, AllocError> {
         Ok(Meter {
             stops,
-            stopping: Rc::new(alloc, CellRow::new(u64::MAX))?,
-            other: Rc::new(alloc, CellRow::new(u64::MAX))?,
+            stopping: Rc::new(alloc, Cell::new(u64::MAX))?,
+            other: Rc::new(alloc, Cell::new(u64::MAX))?,
         })
     }
 
@@ -41,7 +41,7 @@ impl Meter {
     }
 
     /// Those of the log.
-    pub(crate) fn of_log(&self) -> Result<Rc<CellRow<u64>>, AllocError> {
+    pub(crate) fn of_log(&self) -> Result<Rc<Cell<u64>>, AllocError> {
         match self.stops {
             Stops::Database => self.other.clone(),
             _ => self.stopping.clone(),
@@ -49,7 +49,7 @@ impl Meter {
     }
 
     /// Those of the database file.
-    pub(crate) fn of_database(&self) -> Result<Rc<CellRow<u64>>, AllocError> {
+    pub(crate) fn of_database(&self) -> Result<Rc<Cell<u64>>, AllocError> {
         match self.stops {
             Stops::Log => self.other.clone(),
             _ => self.stopping.clone(),

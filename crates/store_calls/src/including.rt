@@ -32,7 +32,8 @@ fn add_callgrind<S: RunStore>(
     counts: &[u64],
     parts: InclusiveParts,
 ) -> Result<InclusiveParts, StoreError>
-    ensures told { Told S.StoreState result store.old store.new (λ t all. AddsHeld t (AreRowsOfKind Callgrind t run.now.number counts.now) (sums_in parts) (sums_in all)) }
+    ensures told { Told S.StoreState result store.old store.new
+        (λ t all. AddsHeld t (AreRowsOfKind Callgrind t run.now.number counts.now) (sums_in parts) (sums_in all)) }
     ensures of_events { Told S.StoreState result store.old store.new (λ t _. AllByRecursion (IsOfAnEvent run.now.events) (cells_in run.now.number t)) }
     ensures asks { AsksIfOpen S.StoreState (is_ok result) store.old store.new }
 {
@@ -49,7 +50,8 @@ fn add_folded<S: RunStore>(
     counts: &[u64],
     parts: InclusiveParts,
 ) -> Result<InclusiveParts, StoreError>
-    ensures told { Told S.StoreState result store.old store.new (λ t all. AddsHeld t (AreRowsOfKind Folded t run.now.number counts.now) (sums_in parts) (sums_in all)) }
+    ensures told { Told S.StoreState result store.old store.new
+        (λ t all. AddsHeld t (AreRowsOfKind Folded t run.now.number counts.now) (sums_in parts) (sums_in all)) }
     ensures asks { AsksIfOpen S.StoreState (is_ok result) store.old store.new }
 {
     let rows = InclusiveRows { counts, parts };
@@ -65,7 +67,8 @@ fn add_rows<S: RunStore>(
     counts: &[u64],
     parts: InclusiveParts,
 ) -> Result<InclusiveParts, StoreError>
-    ensures told { Told S.StoreState result store.old store.new (λ t all. AddsHeld t (AreRowsCounted t run.now.number counts.now) (sums_in parts) (sums_in all)) }
+    ensures told { Told S.StoreState result store.old store.new
+        (λ t all. AddsHeld t (AreRowsCounted t run.now.number counts.now) (sums_in parts) (sums_in all)) }
     ensures asks { AsksIfOpen S.StoreState (is_ok result) store.old store.new }
 {
     match store.kind_of(run.number)? {

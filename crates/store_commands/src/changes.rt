@@ -65,7 +65,8 @@ fn unmade<S: RunStore>(
     limits: Limits,
     name: &str,
 ) -> Result<Option<Refusal>, StoreError>
-    ensures told { Told S.StoreState result store.old store.new (λ t refusal. refusal ≡ unmade_for (has_group t name.now) (nat_le limits.groups (length t.groups))) }
+    ensures told { Told S.StoreState result store.old store.new
+        (λ t refusal. refusal ≡ unmade_for (has_group t name.now) (nat_le limits.groups (length t.groups))) }
     ensures asks { Asks S.StoreState (is_ok result) store.old store.new }
 {
     if store.has_group(name)? {

@@ -91,7 +91,8 @@ pub fn csv_sums<S: RunStore>(
     alloc: Global,
     selection: &Selection<&[u8]>,
 ) -> Result<Result<CellSums, Refusal>, StoreError>
-    ensures { AnswersAsked S.StoreState (λ t. IsCsv t (plain_selection selection.now)) (Csv (plain_selection selection.now)) (csv_asked result) store.old store.new }
+    ensures { AnswersAsked S.StoreState (λ t. IsCsv t (plain_selection selection.now)) (Csv (plain_selection selection.now))
+        (csv_asked result) store.old store.new }
 {
     let numbers = match select_runs(store, alloc, selection)? {
         Ok(numbers) => numbers,

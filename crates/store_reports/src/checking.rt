@@ -45,7 +45,8 @@ fn push_sums<S: RunStore>(
     text: &mut Vec<u8>,
     most: usize,
 ) -> Result<(), StoreError>
-    ensures told { Told S.StoreState result store.old store.new (λ t _. S.Names.name_rows names.now ≡ t.names → IsHeadIn number t head.now → IsChecked t number text.old.items text.new.items) }
+    ensures told { Told S.StoreState result store.old store.new (λ t _. S.Names.name_rows names.now ≡ t.names → IsHeadIn number t head.now
+        → IsChecked t number text.old.items text.new.items) }
     ensures asks { AsksIfOpen S.StoreState (is_ok result) store.old store.new }
 {
     let sums = store.sums_of(alloc, number)?;
@@ -63,7 +64,8 @@ fn check_run<S: RunStore>(
     text: &mut Vec<u8>,
     most: usize,
 ) -> Result<(), StoreError>
-    ensures told { Told S.StoreState result store.old store.new (λ t _. S.Names.name_rows names.now ≡ t.names → IsChecked t number text.old.items text.new.items) }
+    ensures told { Told S.StoreState result store.old store.new (λ t _. S.Names.name_rows names.now ≡ t.names
+        → IsChecked t number text.old.items text.new.items) }
     ensures asks { AsksIfOpen S.StoreState (is_ok result) store.old store.new }
 {
     let head = store.head_of(alloc, number)?;
@@ -126,7 +128,8 @@ pub fn verify_answer<S: RunStore>(
     selection: &Selection<&[u8]>,
     most: usize,
 ) -> Result<Answer, StoreError>
-    ensures { AnswersAsked S.StoreState (λ t. IsVerified t (plain_selection selection.now)) (Verify (plain_selection selection.now)) result store.old store.new }
+    ensures { AnswersAsked S.StoreState (λ t. IsVerified t (plain_selection selection.now))
+        (Verify (plain_selection selection.now)) result store.old store.new }
 {
     let numbers = match select_runs(store, alloc, selection)? {
         Ok(numbers) => numbers,

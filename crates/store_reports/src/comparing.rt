@@ -44,7 +44,8 @@ fn compared_runs<S: RunStore>(
     first: &Selection<&[u8]>,
     second: &Option<Selection<&[u8]>>,
 ) -> Result<Numbers, StoreError>
-    ensures told { Told S.StoreState result store.old store.new (λ t found. AreComparedIn t (plain_selection first.now) (option_map plain_selection second.now) found) }
+    ensures told { Told S.StoreState result store.old store.new (λ t found. AreComparedIn t (plain_selection first.now)
+        (option_map plain_selection second.now) found) }
     ensures asks { AsksIfOpen S.StoreState (is_ok result) store.old store.new }
 {
     if let Some(second) = second {

@@ -107,7 +107,8 @@ pub(crate) fn make_thread_cells<S: Alter>(tx: &mut Transaction<'_, S>) -> Result
 
 /// Drops the table of cells of version 1, whatever rows the tables have.
 pub(crate) fn drop_cells<S: Alter>(tx: &mut Transaction<'_, S>) -> Result<(), StoreError>
-    ensures makes { (contents : List (List Row)) → ChangesTables S.Store (is_ok result) schema_both contents schema_two (without_content 6 contents) tx.old tx.new }
+    ensures makes { (contents : List (List Row)) → ChangesTables S.Store (is_ok result) schema_both contents schema_two
+        (without_content 6 contents) tx.old tx.new }
     ensures keeps { CommitsNothing S.Store (is_ok result) tx.old tx.new }
 {
     write_inside(tx, "DROP TABLE cell", &[])

@@ -40,7 +40,8 @@ fn migrate_in<S: Alter>(conn: &mut Connection<S>) -> Result<(), StoreError>
         → OnOk result (Rests schema_two (Holds t) (state S.Store conn.new)) }
     ensures undone { HasCleanDisk (state S.Store conn.new) → OnErr result (IsUndone (state S.Store conn.old) (state S.Store conn.new)) }
     ensures stays { HasCleanDisk (state S.Store conn.new) → Stays (is_ok result) (state S.Store conn.old) (state S.Store conn.new) }
-    ensures crash { (t : Tables) → Rests schema_one (HoldsFirst t) (state S.Store conn.old) → Survives (state S.Store conn.old) (state S.Store conn.new) (Holds t) }
+    ensures crash { (t : Tables) → Rests schema_one (HoldsFirst t) (state S.Store conn.old)
+        → Survives (state S.Store conn.old) (state S.Store conn.new) (Holds t) }
     ensures shut { CommitsUnlessShut S.Store conn.old conn.new }
 {
     let mut tx = conn.transaction();
