@@ -17,7 +17,7 @@ fn function(frame: &[u8]) -> &[u8]
 }
 
 /// The functions that have a frame in a stack, each once.
-pub(crate) fn functions_in(alloc: Global, frames: &[u8]) -> Result<BTreeSet<&[u8]>, AllocError>
+pub fn functions_in(alloc: Global, frames: &[u8]) -> Result<BTreeSet<&[u8]>, AllocError>
     ensures { IfOk result (λ functions. names_in functions.keys ≡ functions_in frames.now) }
 {
     let mut functions = BTreeSet::new(alloc);

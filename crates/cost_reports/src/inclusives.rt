@@ -150,6 +150,18 @@ impl<'n> Model for InclusiveSums<'n> {
     ghost view = { λ a. record { sums = a.sums.sums; total = a.total } };
 }
 
+impl<'n> InclusiveSums<'n> {
+    /// Of inclusive costs by function, and what all functions cost by themselves.
+    pub fn new(sums: LentSums<'n>, total: u128) -> InclusiveSums<'n>
+        requires key { sums.key ≡ Function }
+        requires small { total < 2 ^ 112 }
+        ensures sums { result.sums ≡ sums.entry.sums }
+        ensures total { result.total ≡ total }
+    {
+        InclusiveSums { sums, total }
+    }
+}
+
 /// What functions cost with all that they call, the greatest cost first, and what all cost by
 /// themselves. The names of its rows are those of the sums that it is of.
 #[derive(Drop)]

@@ -106,7 +106,7 @@ impl<'n> LentSums<'n> {
     }
 
     /// The parts with their sums, in order. Takes no memory.
-    pub(crate) fn iter(&self) -> Iter<'_, LentPlace<'n>, u128>
+    pub fn iter(&self) -> Iter<'_, LentPlace<'n>, u128>
         ensures sums { lent_sums result ≡ self.now.sums }
         ensures order { IsInOrder self.now.sums }
     {

@@ -47,7 +47,7 @@ mod verifying;
 
 pub use call_reports::{CallReport, CallSums, calls};
 pub use differences::{Difference, subtract};
-pub use frames::is_frame;
+pub use frames::{functions_in, is_frame};
 pub use inclusives::{FrameSums, InclusiveReport, InclusiveSums, inclusive};
 pub use key_reports::{Report, by};
 pub use laws::{
