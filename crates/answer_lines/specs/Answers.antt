@@ -1,5 +1,6 @@
 -- What is printed of an answer, and which answers are refusals.
-use Rattle.std.specs.Prelude.{ℕ, Bool, true, false, List, ◌++◌, codes}
+use Rattle.std.specs.Prelude.{ℕ, Bool, true, false, if◌then◌else◌, List, ◌++◌, codes}
+use Rattle.std.specs.List.{list_any}
 use Rattle.std.specs.Fmt.{decimal}
 use Rattle.cg_text.specs.Errors.{error_text}
 use Rattle.cg_text.specs.declared.faults.ReadEnd.TheVariants as ends
@@ -52,3 +53,7 @@ takes_memory answer = true
 abbrev pub is_refused : Answer → Bool
 is_refused (Refused refusal) = true
 is_refused answer = false
+
+-- of a program that has printed them
+abbrev pub status_of : List Answer → ℕ
+status_of answers = if list_any is_refused answers then 1 else 0

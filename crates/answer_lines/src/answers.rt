@@ -92,3 +92,14 @@ pub fn is_refused(answer: &Answer) -> bool
 {
     matches!(answer, Answer::Refused(_))
 }
+
+/// The exit status of a program that has printed some answers: 1 if one is a refusal, else 0. Takes no memory.
+pub fn status_of(answers: &[Answer]) -> u8
+    ensures { result ≡ told.status_of answers.now }
+{
+    if answers.iter().any(|answer| is_refused(answer)) {
+        1
+    } else {
+        0
+    }
+}

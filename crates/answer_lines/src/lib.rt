@@ -4,4 +4,4 @@
 // What is printed of an answer.
 mod answers;
 
-pub use answers::{is_refused, line_of};
+pub use answers::{is_refused, line_of, status_of};
