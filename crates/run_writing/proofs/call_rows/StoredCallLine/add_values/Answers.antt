@@ -1,4 +1,4 @@
-use Rattle.run_writing.proofs.call_rows.CallRowLine.add_values.Goals as goal
+use Rattle.run_writing.proofs.call_rows.StoredCallLine.add_values.Goals as goal
 
 -- ten values are more than the search takes by itself
 pub returns : goal.returns
