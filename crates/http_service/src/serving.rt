@@ -8,8 +8,7 @@ use crate::logging::log;
 use crate::{Exchange, Room, answer};
 use histories::Limits;
 use http_clients::{Client, Clients};
-use http_exchange::{FIELD_LIMIT, HEAD_LIMIT, Place, RESPONSE_ROOM, routes};
-use httparse::spans::EMPTY_HEADER_SPAN;
+use http_exchange::{Place, routes};
 use matchit::Router;
 use run_stores::RunStore;
 use std::io;
@@ -84,11 +83,7 @@ pub fn serve_on<'a, S: RunStore>(
     ensures limits { warehouse.new.limits ≡ warehouse.old.limits }
     ensures served { Serves S.StoreState requests warehouse.old.limits warehouse.old.store warehouse.new.store }
 {
-    let mut room = Room {
-        head: [0u8; HEAD_LIMIT],
-        fields: [EMPTY_HEADER_SPAN; FIELD_LIMIT],
-        response: [0u8; RESPONSE_ROOM],
-    };
+    let mut room = Room::new();
     'clients: for _client in 0..requests {
         let Ok(client) = clients.next(&mut room.head, &mut room.fields) else {
             return false;
