@@ -26,6 +26,9 @@ mod page_stops;
 // A list of commands of which one allocation is refused.
 #[cfg(test)]
 mod refused;
+// The worked rows, over the library.
+#[cfg(test)]
+mod rows;
 // A machine that stops while a store is made or migrated by SQL.
 #[cfg(test)]
 mod stops;

@@ -1,0 +1,47 @@
+//! The library in one crate, for who reads profiles, adds up their rows, prints reports, or keeps them in a store. Each item
+//! stands in the crate that is named here, with its contract.
+#![tactic(auto)]
+
+// Lines, fields and numbers of Callgrind files; derived events.
+pub use cg_formulas::{
+    EventLine, FileHead, Flat, FlatEnd, Formula, Formulas, SplitTerms, TextEnd, event_line,
+};
+pub use cg_text::{
+    Fault, HeaderKey, LineKind, Lines, ListVec, NameSpec, NameWord, ReadEnd, SubPos, classify,
+    fields, name_spec, number, subpos,
+};
+
+// Files, read in pieces: what takes their records is a sink.
+pub use callgrind_reader::{CallCost, LentName, LentNames, Mark, Reader, SelfCost, Sink};
+pub use folded_reader::{FoldedReader, StackSink};
+
+// The rows of a file, merged; the bounds of sums.
+pub use cost_rows::{
+    ArcRow, CellRow, FileRows, FileTotals, Key, Merged, Names, Overflow, Side, StackRow, admit,
+};
+
+// Reports and exports of rows.
+pub use cost_exports::{CellSums, LineSums, StackSums, annotate, csv_text, folded_text};
+pub use cost_reports::{
+    CallReport, CallRow, Check, Cut, Difference, DifferenceRow, InclusiveReport, LentPlace, Pair,
+    Report, Row, Signed, Verification, verify,
+};
+pub use row_reports::{by, callees, callers, inclusive, subtract};
+
+// A store in SQLite, and its rows.
+pub use held_runs::{CallSink, CellSink, StackRowSink, each_call, each_cell, each_stack, head_of};
+pub use prof_store::{GroupEntry, Kind, OpenError, RunEntry, Store, StoreError};
+pub use run_writing::{SummedFile, put_run};
+
+// All commands over a store.
+pub use sql_runs::SqlRuns;
+pub use warehouse::{
+    Answer, Command, Excess, Limits, Query, ReadFault, Refusal, Selection, Source, Warehouse,
+};
+
+// Over HTTP, and what the program prints.
+pub use answer_lines::{line_of, status_of};
+pub use command_line::{Plan, PlanEnd, plan};
+pub use file_reading::{Total, TotalText, total_file, total_text};
+pub use http_service::serve_on;
+pub use prof_http::{Exchange, Room, Stream, StreamFault, answer, routes};
