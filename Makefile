@@ -55,6 +55,7 @@ test: build
 	tests/web
 	tests/readme
 	tests/words_of_help
+	tests/terminal
 	tests/scripts
 	tests/hostile_words
 

@@ -13,7 +13,9 @@ use sqlite_pager::Options;
 use std::alloc::Global;
 use std::rt::HostRuntime;
 use std::{fs, io};
-use store_paths::{Patience, TRIES, is_blank_in, is_migratable, is_no_file, options_for};
+use store_paths::{
+    Cause, NotOpened, Patience, TRIES, is_blank_in, is_migratable, is_no_file, options_for,
+};
 
 /// What commands came to over a store that others may write.
 #[derive(Drop)]
@@ -23,7 +25,7 @@ pub(crate) enum Beside {
     /// Others wrote while the store was read.
     Moved,
     /// The store is refused, and nothing of it was written.
-    Refused(OpenError),
+    Refused(NotOpened),
     /// It is of version 1, and is brought up to this one when it is opened to be changed.
     First,
     /// Nothing is known of it: the commands change it, or the files are not to be read so.
@@ -52,7 +54,7 @@ fn may_be_repeated(rt: &HostRuntime, command: &WordsCommand<'_>) -> bool {
 fn beside_of(unopened: Unopened) -> Beside {
     match unopened {
         Unopened::Moved => Beside::Moved,
-        Unopened::OutOfMemory => Beside::Refused(OpenError::Memory),
+        Unopened::OutOfMemory => Beside::Refused(OpenError::Memory.into()),
         Unopened::Io(_) | Unopened::Unfit => Beside::Unfit,
     }
 }
@@ -73,10 +75,10 @@ fn is_to_be_migrated<D: Disk + Drop, S: Start>(
     alloc: Global,
     files: DiskFiles<ReadOnly<D, S>>,
     options: Options,
-) -> Result<bool, OpenError> {
+) -> Result<bool, NotOpened> {
     let mut files = files;
     if is_blank_in(alloc, &mut files)? {
-        return Err(OpenError::WrongSchema);
+        return Err(OpenError::WrongSchema.into());
     }
     is_migratable(alloc, files, options)
 }
@@ -101,7 +103,7 @@ fn refused_in<D: Disk + Drop, S: Start>(
     }
     match found {
         Ok(true) => Beside::First,
-        Ok(false) => Beside::Refused(OpenError::Store),
+        Ok(false) => Beside::Refused(OpenError::Store.into()),
         Err(end) => Beside::Refused(end),
     }
 }
@@ -120,7 +122,7 @@ fn refused_at(rt: &HostRuntime, path: &str) -> Beside {
 /// What comes of a store at a path that cannot be read beside others, where this was found.
 fn unread(rt: &HostRuntime, path: &str, standing: &Standing, why: Unread) -> Beside {
     match why {
-        Unread::Memory => Beside::Refused(OpenError::Memory),
+        Unread::Memory => Beside::Refused(OpenError::Memory.into()),
         _ if !has_stood(rt, standing) => Beside::Moved,
         Unread::Unheld => Beside::Unfit,
         Unread::Store => refused_at(rt, path),
@@ -223,7 +225,7 @@ fn may_be_changed_at(rt: &HostRuntime, path: &str) -> bool {
 /// Refuses the store at a path that is not to be opened to be changed, for what it is: no lock is taken, and nothing is
 /// made or changed. The opening itself refuses what was not seen here: files that are not to be read beside others, or that
 /// others write. No guarantee: as `work_beside`.
-pub(crate) fn look_beside(rt: &HostRuntime, path: &str) -> Result<(), OpenError> {
+pub(crate) fn look_beside(rt: &HostRuntime, path: &str) -> Result<(), NotOpened> {
     if is_no_file(path) || may_be_changed_at(rt, path) {
         return Ok(());
     }
@@ -234,7 +236,10 @@ pub(crate) fn look_beside(rt: &HostRuntime, path: &str) -> Result<(), OpenError>
             if may_be_changed || !has_stood(rt, &standing) {
                 Ok(())
             } else {
-                Err(OpenError::WrongSchema)
+                Err(NotOpened {
+                    end: OpenError::WrongSchema,
+                    cause: Some(Cause::OtherIndex),
+                })
             }
         }
         Err(Beside::Refused(end)) => Err(end),

@@ -19,7 +19,7 @@ use sqlite_disk::{Disk, Files as DiskFiles, Start, Unknown};
 use sqlite_pager::Options;
 use std::alloc::Global;
 use std::rt::HostRuntime;
-use store_paths::{Patience, files_at, options_for};
+use store_paths::{Cause, NotOpened, Patience, files_at, options_for};
 
 /// How many pages are kept in memory where a store is only read: each is read once, and more would only have to be made.
 pub(crate) const PAGES_TO_READ: usize = 100;
@@ -78,13 +78,13 @@ pub(crate) fn pages_at(
     rt: &HostRuntime,
     path: &str,
     patience: Patience,
-) -> Result<PageRuns<ReadOnly<File, Unknown>>, OpenError> {
+) -> Result<PageRuns<ReadOnly<File, Unknown>>, NotOpened> {
     let files = files_at(rt, path, patience)?;
     let options = options_for(rt, PAGES_TO_READ)?;
     match store_in_pages(rt.alloc(), files, options) {
         Ok(store) => Ok(store),
-        Err(Unread::Memory) => Err(OpenError::Memory),
-        Err(Unread::Unheld | Unread::Store) => Err(OpenError::Store),
+        Err(Unread::Memory) => Err(OpenError::Memory.into()),
+        Err(Unread::Unheld | Unread::Store) => Err(OpenError::Store.into()),
     }
 }
 
@@ -97,13 +97,16 @@ pub(crate) fn pages_to_change_at(
     path: &str,
     patience: Patience,
     cells_to_keep: usize,
-) -> Result<StoreInPages, OpenError> {
+) -> Result<StoreInPages, NotOpened> {
     let files = files_at(rt, path, patience)?;
     let options = options_for(rt, PAGES_TO_CHANGE)?;
     let store = PageRuns::open(rt.alloc(), files, options, cells_to_keep)?;
     if store.may_be_changed() {
         Ok(store)
     } else {
-        Err(OpenError::WrongSchema)
+        Err(NotOpened {
+            end: OpenError::WrongSchema,
+            cause: Some(Cause::OtherIndex),
+        })
     }
 }

@@ -12,15 +12,24 @@ use prof_store::OpenError;
 use run_stores::RunStore;
 use sessions::{WordsCommand, commands_of, print_total, work_over};
 use std::alloc::AllocError;
+use std::io::IsTerminal;
 use std::process::ExitCode;
 use std::rt::HostRuntime;
 use std::{env, io};
-use store_paths::{Patience, error_line, look_at, make_missing_at};
+use store_paths::{NotOpened, Patience, cause_line, error_line, look_at, make_missing_at};
 
 /// Prints the line of a refusal. No guarantee: of what is printed the checker knows nothing.
 fn print_refused<R: Print>(rt: &R, reason: &str) -> io::Result<ExitCode> {
     println!(rt; "refused: {reason}")?;
     Ok(ExitCode::FAILURE)
+}
+
+/// Tells a person what was found of a store, on a terminal: a script, which has the standard error in a file or a pipe, sees
+/// nothing of it. What cannot be told is not. No guarantee: of what is printed the checker knows nothing.
+fn tell_person(rt: &HostRuntime, db: &str, found: &str) {
+    if rt.stderr().is_terminal() {
+        let _told = eprintln!(rt; "{db}: {found}");
+    }
 }
 
 /// What is done over the store at a path.
@@ -73,9 +82,14 @@ fn store_to_change_at(
     db: &str,
     patience: Patience,
     cells_to_keep: usize,
-) -> Result<StoreInPages, OpenError> {
+) -> Result<StoreInPages, NotOpened> {
     match pages_to_change_at(rt, db, patience, cells_to_keep) {
-        Err(OpenError::Store) => {}
+        Err(
+            NotOpened {
+                end: OpenError::Store,
+                ..
+            },
+        ) => {}
         opened => return opened,
     }
     look_at(rt, db, patience)?;
@@ -89,7 +103,7 @@ fn change_at<'a>(
     db: &str,
     patience: Patience,
     job: Job<'_, 'a>,
-) -> Result<io::Result<u8>, OpenError> {
+) -> Result<io::Result<u8>, NotOpened> {
     let store = store_to_change_at(rt, db, patience, job.cells_to_keep())?;
     let (came_to, mut store) = job.over(rt, store);
     let _copied = store.checkpoint();
@@ -104,11 +118,11 @@ fn work_alone<'a>(
     db: &str,
     patience: Patience,
     job: Job<'_, 'a>,
-) -> Result<io::Result<u8>, OpenError> {
+) -> Result<io::Result<u8>, NotOpened> {
     if job.only_reads() {
         match pages_at(rt, db, patience) {
             Ok(store) => return Ok(job.over(rt, store).0),
-            Err(OpenError::Memory) => return Err(OpenError::Memory),
+            Err(refused) if refused.end == OpenError::Memory => return Err(refused),
             Err(_) => {}
         }
     }
@@ -123,14 +137,16 @@ fn work_at<'a>(
     rt: &'a HostRuntime,
     db: &str,
     job: Job<'_, 'a>,
-) -> Result<io::Result<u8>, OpenError> {
+) -> Result<io::Result<u8>, NotOpened> {
     let patience = Patience::begin(rt);
-    make_missing_at(rt, db, patience)?;
+    if make_missing_at(rt, db, patience)? {
+        tell_person(rt, db, "it is new");
+    }
     if let Job::Run(commands) = job {
         match work_beside(rt, db, commands, patience) {
             Beside::Done(came_to) => return Ok(came_to),
-            Beside::Moved => return Err(OpenError::Store),
-            Beside::Refused(end) => return Err(end),
+            Beside::Moved => return Err(OpenError::Store.into()),
+            Beside::Refused(refused) => return Err(refused),
             Beside::First => return change_at(rt, db, patience, job),
             Beside::Unfit => {}
         }
@@ -139,11 +155,18 @@ fn work_at<'a>(
 }
 
 /// The status of what a job came to, or of a store that was not opened: why is printed. No guarantee: as `work_at`.
-fn status_of(rt: &HostRuntime, came_to: Result<io::Result<u8>, OpenError>) -> io::Result<ExitCode> {
+fn status_of(
+    rt: &HostRuntime,
+    db: &str,
+    came_to: Result<io::Result<u8>, NotOpened>,
+) -> io::Result<ExitCode> {
     match came_to {
         Ok(status) => Ok(ExitCode::from(status?)),
-        Err(end) => {
-            println!(rt; "{}", error_line(end))?;
+        Err(refused) => {
+            println!(rt; "{}", error_line(refused.end))?;
+            if let Some(cause) = refused.cause {
+                tell_person(rt, db, cause_line(cause));
+            }
             Ok(ExitCode::FAILURE)
         }
     }
@@ -170,10 +193,12 @@ fn run_plan<'a>(rt: &'a HostRuntime, plan: Plan<'a>) -> io::Result<ExitCode> {
                 most: most_bytes as usize,
                 log,
             };
-            status_of(rt, work_at(rt, db, Job::Serve(service)))
+            status_of(rt, db, work_at(rt, db, Job::Serve(service)))
         }
         plan => match commands_of(rt.alloc(), plan) {
-            Ok((db, commands)) => status_of(rt, work_at(rt, db, Job::Run(commands.as_slice()))),
+            Ok((db, commands)) => {
+                status_of(rt, db, work_at(rt, db, Job::Run(commands.as_slice())))
+            }
             Err(AllocError) => print_refused(rt, "out of memory"),
         },
     }

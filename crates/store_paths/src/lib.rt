@@ -15,7 +15,7 @@ mod refusals;
 // Makes, finds, migrates or refuses the store in a database, and that at a path.
 mod stores;
 
-pub use errors::error_line;
+pub use errors::{Cause, NotOpened, cause_line, error_line};
 pub use patience::{Patience, TRIES, files_at};
 pub use refusals::{is_blank_in, is_migratable};
 pub use stores::{is_no_file, look_at, make_missing_at, options_for, ready_in};

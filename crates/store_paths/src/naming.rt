@@ -5,7 +5,7 @@ ghost use Rattle.std_io.specs.IoError.{error_kind};
 ghost use Rattle.store_paths.specs.Errors.{unnamed};
 ghost use Rattle.store_paths.specs.NewStores.{is_other};
 
-use crate::errors::error_of_host;
+use crate::errors::NotOpened;
 use crate::new_stores::new_store;
 use crate::patience::{Patience, TRIES};
 use crate::stores::is_no_file;
@@ -43,19 +43,19 @@ pub(crate) enum Unmade {
     Again,
     /// The file system gives no second names or no locks, or somebody else's file has the name beside.
     NoWay,
-    Failed(OpenError),
+    Failed(NotOpened),
 }
 
 impl From<io::Error> for Unmade {
     ghost use Rattle.std.specs.Prelude.{◌≡◌};
     ghost use Rattle.std_io.specs.IoError.{error_kind};
-    ghost use Rattle.store_paths.specs.Errors.{host_refusal};
+    ghost use Rattle.store_paths.specs.Errors.{host_not_opened};
     ghost use Rattle.store_paths.specs.declared.naming.Unmade.TheVariants as ends;
 
-    ghost from_gives = { λ error end. end ≡ ends.Failed (host_refusal (error_kind error)) };
+    ghost from_gives = { λ error end. end ≡ ends.Failed (host_not_opened (error_kind error)) };
 
     fn from(error: io::Error) -> Unmade {
-        Unmade::Failed(error_of_host(&error))
+        Unmade::Failed(NotOpened::by_host(&error))
     }
 }
 
@@ -290,37 +290,37 @@ pub(crate) fn make_whole_at(
     path: &str,
     options: Options,
     patience: Patience,
-) -> Result<bool, OpenError> {
+) -> Result<bool, NotOpened> {
     if is_no_file(path) || path.is_empty() || path.ends_with('/') {
         return Ok(false);
     }
     match logs_of(rt, path) {
         Ok(Logs::Full) => return Ok(false),
         Ok(_) => {}
-        Err(error) => return Err(error_of_host(&error)),
+        Err(error) => return Err(NotOpened::by_host(&error)),
     }
     let Ok(file) = new_store(rt.alloc(), options) else {
-        return Err(OpenError::Memory);
+        return Err(OpenError::Memory.into());
     };
     let place = match Place::open(rt, path) {
         Ok(place) => place,
-        Err(error) => return Err(error_of_host(&error)),
+        Err(error) => return Err(NotOpened::by_host(&error)),
     };
     'tries: for _ in 0..TRIES {
         match place.make(file.bytes()) {
             Ok(()) | Err(Unmade::Stands) => return Ok(true),
             Err(Unmade::NoWay) => return Ok(false),
             Err(Unmade::Again) if patience.is_left(rt) => {}
-            Err(Unmade::Again) => return Err(OpenError::Store),
+            Err(Unmade::Again) => return Err(OpenError::Store.into()),
             Err(Unmade::Failed(end)) => return Err(end),
         }
     }
-    Err(OpenError::Store)
+    Err(OpenError::Store.into())
 }
 
 /// Takes from a store the second name that it has where a command was stopped between giving it its name and taking the
 /// one beside: a database with two names is refused. No guarantee: as above.
-pub(crate) fn drop_second_name_at(rt: &HostRuntime, path: &str) -> Result<(), OpenError> {
+pub(crate) fn drop_second_name_at(rt: &HostRuntime, path: &str) -> Result<(), NotOpened> {
     let Ok(found) = fs::metadata(rt, path) else {
         return Ok(());
     };
@@ -331,7 +331,7 @@ pub(crate) fn drop_second_name_at(rt: &HostRuntime, path: &str) -> Result<(), Op
         return Ok(());
     };
     let Ok(beside) = path_with(rt, real.as_str(), BESIDE) else {
-        return Err(OpenError::Memory);
+        return Err(OpenError::Memory.into());
     };
     match found_at(rt, beside.as_str()) {
         Ok(Some(named)) if are_same(&found, &named) => {

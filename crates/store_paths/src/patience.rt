@@ -2,7 +2,7 @@
 ghost use Rattle.std.specs.Prelude.{true, false, IsTrue, IfOk};
 ghost use Rattle.sqlite_std_file.specs.File.{file_is_usable, IsFresh};
 
-use crate::errors::error_of_path;
+use crate::errors::NotOpened;
 use crate::stores::is_no_file;
 use prof_store::OpenError;
 use sqlite::File;
@@ -56,20 +56,20 @@ pub fn files_at(
     rt: &HostRuntime,
     path: &str,
     patience: Patience,
-) -> Result<DiskFiles<File>, OpenError>
+) -> Result<DiskFiles<File>, NotOpened>
     ensures log { IfOk result (λ files. IsTrue (file_is_usable ⟦<Unknown as Start>⟧ files.log)) }
     ensures db { IfOk result (λ files. IsTrue (file_is_usable ⟦<Unknown as Start>⟧ files.db)) }
     ensures fresh { IfOk result (λ files. IsFresh true files.log × IsFresh false files.db) }
 {
     if is_no_file(path) {
-        return Err(OpenError::Store);
+        return Err(OpenError::Store.into());
     }
     'tries: for _ in 0..TRIES {
         match sqlite_std_file::open(rt, path, Unknown) {
             Ok(files) => return Ok(files),
             Err(PathError::Busy) if patience.is_left(rt) => {}
-            Err(error) => return Err(error_of_path(error)),
+            Err(error) => return Err(NotOpened::at_path(error)),
         }
     }
-    Err(OpenError::Store)
+    Err(OpenError::Store.into())
 }

@@ -8,7 +8,7 @@ ghost use Rattle.sqlite_value.specs.declared.value.Value.TheVariants.{Int};
 ghost use Rattle.sqlite_wal.specs.Reads.{AreClean, OnlyReads};
 ghost use Rattle.store_paths.specs.Stores.{AsksForFirst, IsFoundIn, SaysFirst};
 
-use crate::errors::error_of_open;
+use crate::errors::{NotOpened, error_of_open};
 use crate::stores::ready_in;
 use prof_store::OpenError;
 use sqlite::types::ValueRef;
@@ -80,7 +80,7 @@ pub fn is_migratable<D: Disk + Drop>(
     alloc: Global,
     files: Files<D>,
     options: Options,
-) -> Result<bool, OpenError>
+) -> Result<bool, NotOpened>
     requires log { IsTrue (D.Disk.is_usable files.log) }
     requires db { IsTrue (D.Disk.is_usable files.db) }
     ensures { IfOk result (IsFoundIn D.Disk files) }
@@ -89,13 +89,13 @@ pub fn is_migratable<D: Disk + Drop>(
     options.checkpoint_frames = usize::MAX;
     let mut conn = match Connection::open_files_with(alloc, files, options, false) {
         Ok(conn) => conn,
-        Err((error, _)) => return Err(error_of_open(error)),
+        Err((error, _)) => return Err(NotOpened::by_sql(error)),
     };
     if !is_first_in(&mut conn)? {
         return Ok(false);
     }
     match ready_in(alloc, conn, false) {
         (Ok(()), _) => Ok(true),
-        (Err(end), _) => Err(end),
+        (Err(end), _) => Err(end.into()),
     }
 }

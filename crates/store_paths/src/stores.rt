@@ -6,7 +6,7 @@ ghost use Rattle.prof_store.specs.Shown.{shown, IsFaithful};
 ghost use Rattle.store_paths.specs.Paths.{IsNoFile, KeepsPages};
 ghost use Rattle.store_paths.specs.Stores.{IsReadyIn, Refuses, TakesUp};
 
-use crate::errors::{error_of_host, error_of_open};
+use crate::errors::NotOpened;
 use crate::naming::{drop_second_name_at, make_whole_at};
 use crate::patience::{Patience, files_at};
 use prof_store::{OpenError, Store};
@@ -23,21 +23,21 @@ use std::rt::HostRuntime;
 const PAGES_BY_SQL: usize = 100;
 
 /// How many bytes the file at a path has: none where there is no file.
-fn length_at(rt: &HostRuntime, path: &str) -> Result<u64, OpenError> {
+fn length_at(rt: &HostRuntime, path: &str) -> Result<u64, NotOpened> {
     match fs::metadata(rt, path) {
         Ok(metadata) => Ok(metadata.len()),
         Err(error) if error.kind() == ErrorKind::NotFound => Ok(0),
-        Err(error) => Err(error_of_host(&error)),
+        Err(error) => Err(NotOpened::by_host(&error)),
     }
 }
 
 /// Whether a path is to become a new store: where there is no file, or an empty one. A file of one byte is
 /// no store, and is not opened: the database would take it for a new one that a stop left half made, and
 /// write over it. No guarantee: of the files at a path the checker knows nothing.
-fn is_new_at(rt: &HostRuntime, path: &str) -> Result<bool, OpenError> {
+fn is_new_at(rt: &HostRuntime, path: &str) -> Result<bool, NotOpened> {
     match length_at(rt, path)? {
         0 => Ok(true),
-        1 => Err(OpenError::WrongSchema),
+        1 => Err(OpenError::WrongSchema.into()),
         _ => Ok(false),
     }
 }
@@ -51,11 +51,11 @@ pub fn is_no_file(path: &str) -> bool
 
 /// How its pages are read and written: so many are kept, and so many that were written, before these go to the log,
 /// which a salt of chance marks. That it is of chance no clause says.
-pub fn options_for(rt: &HostRuntime, pages: usize) -> Result<Options, OpenError>
+pub fn options_for(rt: &HostRuntime, pages: usize) -> Result<Options, NotOpened>
     ensures { IfOk result (KeepsPages pages) }
 {
     let Ok(keys) = RandomState::new(rt) else {
-        return Err(OpenError::Store);
+        return Err(OpenError::Store.into());
     };
     let mut options = Options::new(keys.hash_one(&0u8));
     options.cache_pages = pages;
@@ -101,12 +101,12 @@ fn database_at(
     rt: &HostRuntime,
     path: &str,
     patience: Patience,
-) -> Result<Connection<FileStore<File>>, OpenError> {
+) -> Result<Connection<FileStore<File>>, NotOpened> {
     let files = files_at(rt, path, patience)?;
     let options = options_for(rt, PAGES_BY_SQL)?;
     match Connection::open_files_with(rt.alloc(), files, options, false) {
         Ok(conn) => Ok(conn),
-        Err((error, _)) => Err(error_of_open(error)),
+        Err((error, _)) => Err(NotOpened::by_sql(error)),
     }
 }
 
@@ -118,36 +118,47 @@ fn ready_at(
     path: &str,
     patience: Patience,
     is_new: bool,
-) -> Result<(), OpenError> {
+) -> Result<(), NotOpened> {
     let (found, conn) = ready_in(rt.alloc(), database_at(rt, path, patience)?, is_new);
     let _closed = conn.close();
-    found
+    Ok(found?)
 }
 
 /// Looks at the store at a path by SQL: a store of version 1 is migrated, and what is no store is refused for what it is.
 /// No guarantee: as `database_at`.
-pub fn look_at(rt: &HostRuntime, path: &str, patience: Patience) -> Result<(), OpenError> {
+pub fn look_at(rt: &HostRuntime, path: &str, patience: Patience) -> Result<(), NotOpened> {
     ready_at(rt, path, patience, false)
 }
 
 /// Makes a store at a path, unless another command has made it while this one waited for it: whole or not at all, or,
 /// where that cannot be and where an empty file stands there, in its place. No guarantee: as `database_at`.
-fn make_at(rt: &HostRuntime, path: &str, patience: Patience) -> Result<(), OpenError> {
+fn make_at(rt: &HostRuntime, path: &str, patience: Patience) -> Result<(), NotOpened> {
     let options = options_for(rt, PAGES_BY_SQL)?;
     if make_whole_at(rt, path, options, patience)? && !is_new_at(rt, path)? {
         return Ok(());
     }
     match ready_at(rt, path, patience, true) {
-        Err(OpenError::WrongSchema) if !is_new_at(rt, path)? => Ok(()),
+        Err(
+            NotOpened {
+                end: OpenError::WrongSchema,
+                ..
+            },
+        ) if !is_new_at(rt, path)? => Ok(()),
         made => made,
     }
 }
 
 /// Makes the store at a path where there is none, and takes from one that stands there the second name that a stop has
-/// left. No guarantee: as `database_at`.
-pub fn make_missing_at(rt: &HostRuntime, path: &str, patience: Patience) -> Result<(), OpenError> {
-    if is_new_at(rt, path)? {
+/// left. Answers whether it is new. No guarantee: as `database_at`.
+pub fn make_missing_at(
+    rt: &HostRuntime,
+    path: &str,
+    patience: Patience,
+) -> Result<bool, NotOpened> {
+    let is_missing = is_new_at(rt, path)?;
+    if is_missing {
         make_at(rt, path, patience)?;
     }
-    drop_second_name_at(rt, path)
+    drop_second_name_at(rt, path)?;
+    Ok(is_missing)
 }
