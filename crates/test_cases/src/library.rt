@@ -22,11 +22,30 @@ pub fn fields_stand_between_blanks() -> Result<(), Fail> {
     Ok(())
 }
 
+/// A name at the end of a list.
+fn push_name(
+    alloc: Global,
+    names: &mut ListVec<ListVec<u8>>,
+    name: &[u8],
+) -> Result<(), AllocError> {
+    names.push(ListVec::from_vec(name.to_vec(alloc)?))
+}
+
+/// Two names of events.
+fn two_events(
+    alloc: Global,
+    first: &[u8],
+    second: &[u8],
+) -> Result<ListVec<ListVec<u8>>, AllocError> {
+    let mut events = ListVec::new(alloc);
+    push_name(alloc, &mut events, first)?;
+    push_name(alloc, &mut events, second)?;
+    Ok(events)
+}
+
 /// The value of an event where `Ir` costs 3 and `L1m` costs 4, and `Est = Ir + 10 L1m`.
 fn value(alloc: Global, name: &[u8]) -> Result<Option<u128>, AllocError> {
-    let mut events = ListVec::new(alloc);
-    events.push(ListVec::from_vec(b"Ir".to_vec(alloc)?))?;
-    events.push(ListVec::from_vec(b"L1m".to_vec(alloc)?))?;
+    let events = two_events(alloc, b"Ir", b"L1m")?;
     let mut derived = ListVec::new(alloc);
     let numbers = ListVec::from_vec(vec![in alloc; 1, 10]?);
     derived.push((ListVec::from_vec(b"Est".to_vec(alloc)?), numbers))?;
@@ -48,17 +67,14 @@ pub fn derived_events_have_a_value(alloc: Global) -> Result<(), Fail> {
 /// A cost line of 20 and 1, and three calls that cost 400 of the first event.
 const CALLS: &[u8] = b"events: Ir Dr\nfl=a.c\nfn=main\n16 20 1\ncfn=g\ncalls=3 50\n17 400\n";
 
-fn rows_of(alloc: Global, text: &'static [u8]) -> Result<FileRows, Fail> {
-    let mut reader = Reader::new(alloc)?;
-    let mut rows = FileRows::new(alloc);
-    if text.len() as u64 > reader.room() {
-        return Err(Fail::from(AllocError));
-    }
-    reader.feed(text, &mut rows)?;
-    if reader.finish(&mut rows).is_err() {
-        return Err(Fail::from(AllocError));
-    }
-    Ok(rows)
+/// Whether a file is read into rows.
+fn is_read(alloc: Global, rows: &mut FileRows, text: &[u8]) -> bool {
+    let Ok(mut reader) = Reader::new(alloc) else {
+        return false;
+    };
+    text.len() as u64 <= reader.room()
+        && reader.feed(text, rows).is_ok()
+        && reader.finish(rows).is_ok()
 }
 
 /// Whether a row is the cost of an event at line 16 of `main`.
@@ -88,16 +104,21 @@ fn is_call(row: Option<ArcRow<&[u8], &[u128]>>) -> bool {
         && row.costs == [400].as_slice()
 }
 
-pub fn rows_of_a_file_have_their_names(alloc: Global) -> Result<(), Fail> {
-    let rows = rows_of(alloc, CALLS)?;
+/// Whether rows are the two costs and the calls of `CALLS`.
+fn are_of_calls(rows: &FileRows) -> bool {
     let mut cells = rows.cells();
-    holds(is_cost(cells.next(), 0, 20), "another first cost")?;
-    holds(is_cost(cells.next(), 1, 1), "another second cost")?;
-    holds(cells.next().is_none(), "one cost more")?;
     let mut calls = rows.arcs();
-    holds(is_call(calls.next()), "another call")?;
-    holds(calls.next().is_none(), "one call more")?;
-    Ok(())
+    is_cost(cells.next(), 0, 20)
+        && is_cost(cells.next(), 1, 1)
+        && cells.next().is_none()
+        && is_call(calls.next())
+        && calls.next().is_none()
+}
+
+pub fn rows_of_a_file_have_their_names(alloc: Global) -> Result<(), Fail> {
+    let mut rows = FileRows::new(alloc);
+    let are_so = is_read(alloc, &mut rows, CALLS) && are_of_calls(&rows);
+    holds(are_so, "other rows")
 }
 
 /// A file is imported, a source annotated, the run put into a group and removed.
@@ -161,21 +182,26 @@ pub fn a_list_of_commands_is_answered(alloc: Global) -> Result<(), Fail> {
     holds(are_answered(alloc, &mut house)?, "another answer")
 }
 
+/// Whether a head is verified so where the sum of its first event is 9.
+fn is_verified(alloc: Global, head: &FileHead, wanted: &[u8]) -> bool {
+    let Ok(found) = verify(alloc, 3, head, &[9]) else {
+        return false;
+    };
+    match found.text(alloc, 1000) {
+        Ok(text) => text.as_slice() == wanted,
+        Err(AllocError) => false,
+    }
+}
+
 /// An event behind the last sum has none, and its name may have any byte.
 pub fn sums_may_be_fewer_than_events(alloc: Global) -> Result<(), Fail> {
-    let mut events = ListVec::new(alloc);
-    events.push(ListVec::from_vec(b"Ir".to_vec(alloc)?))?;
-    events.push(ListVec::from_vec(b"D\nr".to_vec(alloc)?))?;
+    let events = two_events(alloc, b"Ir", b"D\nr")?;
     let derived = Flat::of(ListVec::new(alloc), ListVec::new(alloc)).ok_or(AllocError)?;
     let head = FileHead {
         events,
         derived,
         stated: None,
     };
-    let text = verify(alloc, 3, &head, &[9])?.text(alloc, 1000)?;
-    holds(
-        text.as_slice() == b"3 Ir 9 none none\n3 D\\x0ar 0 none none\n".as_slice(),
-        "another text",
-    )?;
-    Ok(())
+    let is_so = is_verified(alloc, &head, b"3 Ir 9 none none\n3 D\\x0ar 0 none none\n");
+    holds(is_so, "another text")
 }
