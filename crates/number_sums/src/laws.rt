@@ -15,7 +15,7 @@ ghost use Rattle.run_stores.specs.Names.{named_cell, AreApart};
 pub fn named_sums_are_those_of_the_rows()
     ensures { (names : List NameRow) (key : Key) (rows : List (CellRow ℕ))
         → sums_by key (map (named_cell names) (number_rows (fold with_number (record { key = key; sums = [] }) rows).sums))
-            ≡ sums_by key (map (named_cell names) rows) }
+        ≡ sums_by key (map (named_cell names) rows) }
 {}
 
 /// Where each name is held once, no two sums by number have one place by names: named, they are the sums of the

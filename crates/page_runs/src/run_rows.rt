@@ -132,7 +132,7 @@ pub(crate) fn each_line<D: Disk, T: LineSink + Drop>(
     ensures handed { IsFaithful file.new → (rows : List Row) → ShowsRows file.old table.root rows → InOrder rows
         → (start : T.Start) → T.Has start [] sink
         → IfOk result (λ taken. (lines : List T.Line) × AreOfRun T.columns table.run rows lines
-            × SumTo T.part T.amount lines table.sums.items × T.Has start lines taken) }
+        × SumTo T.part T.amount lines table.sums.items × T.Has start lines taken) }
     ensures reads { OnlyReads file.old file.new }
 {
     let RunTable {
