@@ -1,5 +1,6 @@
 // Answers as they are printed.
 ghost use Rattle.std.specs.Prelude.{◌≡◌, ◌++◌, OnOk, IfOk, codes};
+ghost use Rattle.std.specs.List.{list_any};
 ghost use Rattle.cg_text.specs.Errors.{error_text};
 ghost use Rattle.cg_text.specs.declared.faults.ReadEnd.TheVariants as ends;
 ghost use Rattle.answer_lines.specs.Answers as told;
@@ -93,13 +94,16 @@ pub fn is_refused(answer: &Answer) -> bool
     matches!(answer, Answer::Refused(_))
 }
 
+/// Whether one of some answers is a refusal.
+fn has_refusal(answers: &[Answer]) -> bool
+    ensures { result ≡ list_any told.is_refused answers.now }
+{
+    answers.iter().any(|answer| is_refused(answer))
+}
+
 /// The exit status of a program that has printed some answers: 1 if one is a refusal, else 0. Takes no memory.
 pub fn status_of(answers: &[Answer]) -> u8
     ensures { result ≡ told.status_of answers.now }
 {
-    if answers.iter().any(|answer| is_refused(answer)) {
-        1
-    } else {
-        0
-    }
+    if has_refusal(answers) { 1 } else { 0 }
 }
