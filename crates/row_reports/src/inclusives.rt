@@ -3,7 +3,7 @@ ghost use Rattle.std.specs.Prelude.{◌≡◌, ◌+◌, ◌∷◌, [], ◌<◌, 
 ghost use Rattle.cost_rows.specs.KeySums.{rows_of, total_of, with_row};
 ghost use Rattle.cost_rows.specs.declared.keys.Key.TheVariants.{Function};
 ghost use Rattle.report_texts.specs.Calls.{calls_of_row};
-ghost use Rattle.report_texts.specs.Functions.{function_spot};
+ghost use Rattle.report_texts.specs.Functions.{function_spot, is_one_function};
 ghost use Rattle.report_texts.specs.Inclusive.{inclusive_report, inclusive_rows, names_costs, names_in, outward_costs, row_costs, rows_count};
 ghost use Rattle.report_texts.specs.Pairs.{AreBelow};
 ghost use Rattle.cost_rows.specs.Plain.{plain_cell};
@@ -30,6 +30,25 @@ fn cost_at<'n>(object: &'n [u8], function: &'n [u8], cost: u128) -> CellRow<&'n 
     }
 }
 
+/// Whether a function calls itself.
+fn is_recursive(row: &ArcRow<&[u8], u128>) -> bool
+    ensures { result ≡ is_one_function (calls_of_row row.now).caller (calls_of_row row.now).callee }
+{
+    row.object == row.called_object && row.function == row.called_function
+}
+
+/// Adds what calls cost, if they are to another function.
+fn add_arc<'n>(sums: &mut LentSums<'n>, row: &ArcRow<&'n [u8], u128>) -> Result<(), AllocError>
+    requires small { total_of sums.old.sums + total_of (outward_costs (calls_of_row row.now ∷ [])) < 2 ^ 112 }
+    ensures sums { OnOk result (sums.new ≡ fold with_row sums.old (rows_of (outward_costs (calls_of_row row.now ∷ [])))) }
+    ensures total { OnOk result (total_of sums.new.sums ≡ total_of sums.old.sums + total_of (outward_costs (calls_of_row row.now ∷ []))) }
+{
+    if is_recursive(row) {
+        return Ok(());
+    }
+    sums.add(&cost_at(row.object, row.function, row.costs))
+}
+
 /// Adds what calls to other functions cost.
 fn add_arcs<'n>(sums: &mut LentSums<'n>, rows: &[ArcRow<&'n [u8], u128>]) -> Result<(), AllocError>
     requires small { total_of sums.old.sums + total_of (outward_costs (calls_in rows.now)) < 2 ^ 112 }
@@ -37,9 +56,7 @@ fn add_arcs<'n>(sums: &mut LentSums<'n>, rows: &[ArcRow<&'n [u8], u128>]) -> Res
     ensures total { OnOk result (total_of sums.new.sums ≡ total_of sums.old.sums + total_of (outward_costs (calls_in rows.now))) }
 {
     for row in rows {
-        if row.object != row.called_object || row.function != row.called_function {
-            sums.add(&cost_at(row.object, row.function, row.costs))?;
-        }
+        add_arc(sums, row)?;
     }
     Ok(())
 }
