@@ -12,7 +12,6 @@ use Rattle.http_exchange.specs.Routes.{routes, place_of}
 use Rattle.http_exchange.specs.Failings.{failing_text}
 use Rattle.http_exchange.specs.Responses.{head_text, response_text}
 use Rattle.http_exchange.specs.Requests.{request_of}
-use Rattle.http_exchange.specs.declared.statuses.Status.TheVariants as status
 use Rattle.http_exchange.specs.declared.failings.Failing.{Failing}
 use Rattle.http_exchange.specs.declared.failings.Failing.TheVariants.{BadRequest, NotFound, WrongMethod, LengthRequired, TooLong, NoMemory}
 use Rattle.http_exchange.specs.declared.places.Place.TheVariants as at
@@ -326,11 +325,11 @@ annotates_too_long = refl
 
 -- ---- responses
 
-created : response_text status.Created [] (codes "run 1\n") ≡ codes "HTTP/1.1 201 Created\r\nContent-Type: text/plain\r\nContent-Length: 6\r\nConnection: close\r\n\r\nrun 1\n"
+created : response_text 201 [] (codes "run 1\n") ≡ codes "HTTP/1.1 201 Created\r\nContent-Type: text/plain\r\nContent-Length: 6\r\nConnection: close\r\n\r\nrun 1\n"
 unfolding head_text digits
 created = refl
 
-okay : response_text status.Okay [] [] ≡ codes "HTTP/1.1 200 OK\r\nContent-Type: text/plain\r\nContent-Length: 0\r\nConnection: close\r\n\r\n"
+okay : response_text 200 [] [] ≡ codes "HTTP/1.1 200 OK\r\nContent-Type: text/plain\r\nContent-Length: 0\r\nConnection: close\r\n\r\n"
 unfolding head_text digits
 okay = refl
 
@@ -346,7 +345,7 @@ text_of_wrong_method : failing_text (WrongMethod at.Member) ≡ codes "HTTP/1.1 
 unfolding head_text digits
 text_of_wrong_method = refl
 
-text_of_conflict : response_text status.Conflict [] (codes "refused: full\n") ≡ codes "HTTP/1.1 409 Conflict\r\nContent-Type: text/plain\r\nContent-Length: 14\r\nConnection: close\r\n\r\nrefused: full\n"
+text_of_conflict : response_text 409 [] (codes "refused: full\n") ≡ codes "HTTP/1.1 409 Conflict\r\nContent-Type: text/plain\r\nContent-Length: 14\r\nConnection: close\r\n\r\nrefused: full\n"
 unfolding head_text digits
 text_of_conflict = refl
 
@@ -358,11 +357,11 @@ text_of_too_long : failing_text TooLong ≡ codes "HTTP/1.1 413 Payload Too Larg
 unfolding head_text digits
 text_of_too_long = refl
 
-text_of_unprocessable : head_text status.UnprocessableEntity [] 9 ≡ codes "HTTP/1.1 422 Unprocessable Entity\r\nContent-Type: text/plain\r\nContent-Length: 9\r\nConnection: close\r\n\r\n"
+text_of_unprocessable : head_text 422 [] 9 ≡ codes "HTTP/1.1 422 Unprocessable Entity\r\nContent-Type: text/plain\r\nContent-Length: 9\r\nConnection: close\r\n\r\n"
 unfolding head_text digits
 text_of_unprocessable = refl
 
-text_of_store_failure : head_text status.InternalServerError [] 22 ≡ codes "HTTP/1.1 500 Internal Server Error\r\nContent-Type: text/plain\r\nContent-Length: 22\r\nConnection: close\r\n\r\n"
+text_of_store_failure : head_text 500 [] 22 ≡ codes "HTTP/1.1 500 Internal Server Error\r\nContent-Type: text/plain\r\nContent-Length: 22\r\nConnection: close\r\n\r\n"
 unfolding head_text digits
 text_of_store_failure = refl
 

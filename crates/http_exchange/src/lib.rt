@@ -31,8 +31,6 @@ mod responses;
 mod routing;
 // A response is written (specs/Streams.antt).
 mod sending;
-// The statuses of responses (specs/Responses.antt).
-mod statuses;
 // The trait of what bytes come from and go to (specs/Streams.antt).
 mod streams;
 // Texts cut at a byte (specs/Texts.antt).
@@ -48,5 +46,5 @@ pub use receiving::{HeadEnd, read_head};
 pub use responses::{RESPONSE_HEAD_ROOM, put_head};
 pub use routing::routes;
 pub use sending::{RESPONSE_ROOM, send, write_all};
-pub use statuses::Status;
+pub use http::StatusCode;
 pub use streams::{Stream, StreamFault};
