@@ -7,7 +7,8 @@ use Rattle.http.specs.StatusCode.{code_digits, reason_phrase}
 abbrev pub phrase_of : ℕ → List ℕ
 phrase_of code = unwrap_or (reason_phrase code) []
 
-abbrev pub status_text : ℕ → List ℕ
+-- the code and its phrase
+unfoldable pub status_text : ℕ → List ℕ
 status_text code = code_digits code ++ (codes " " ++ phrase_of code)
 
 -- the field Allow, for a text of its methods; no field for an empty text

@@ -23,10 +23,21 @@ fn put(room: &mut [u8], at: usize, bytes: &[u8]) -> usize
 
 /// The phrase of a status; none of one that has no name.
 fn phrase_of(status: StatusCode) -> &'static str
-    ensures text { result.now ≡ spec.phrase_of status }
-    ensures short { length result.now ≤ 32 }
+    ensures { result.now ≡ spec.phrase_of status }
 {
     status.canonical_reason().unwrap_or("")
+}
+
+/// Puts a status and its phrase, as they stand in the first line of a response.
+#[tactic(auto, using(crate::proofs::PhraseLemmas::phrases_are_short), unfolding(crate::specs::Responses::status_text))]
+fn put_status(room: &mut [u8], at: usize, status: StatusCode) -> usize
+    requires { at + 36 ≤ length room.old }
+    ensures end { result ≤ at + 36 }
+    ensures text { take result room.new ≡ take at room.old ++ spec.status_text status }
+{
+    let at = put(room, at, status.as_str().as_bytes());
+    let at = put(room, at, b" ");
+    put(room, at, phrase_of(status).as_bytes())
 }
 
 /// Puts the field Allow, if there is one.
@@ -55,9 +66,7 @@ pub fn put_head(room: &mut [u8], status: StatusCode, allow: &str, size: usize) -
 {
     let mut digits = Buffer::new();
     let at = put(room, 0, b"HTTP/1.1 ");
-    let at = put(room, at, status.as_str().as_bytes());
-    let at = put(room, at, b" ");
-    let at = put(room, at, phrase_of(status).as_bytes());
+    let at = put_status(room, at, status);
     let at = put(
         room,
         at,

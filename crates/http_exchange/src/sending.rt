@@ -3,8 +3,8 @@ ghost use Rattle.std.specs.Prelude.{◌≡◌, ◌≤◌, ◌+◌, ◌-◌, ◌+
 ghost use Rattle.http_exchange.specs.Responses.{response_text};
 ghost use Rattle.http_exchange.specs.Streams.{Written, Writes, WentAs};
 
-use crate::streams::Stream;
 use crate::put_head;
+use crate::streams::Stream;
 use http::StatusCode;
 
 /// Room for the head of a response, and for the front of its body; most responses are written at once.
