@@ -10,9 +10,8 @@ use Rattle.http_exchange.specs.Texts.{parts_of}
 use Rattle.http_exchange.specs.Places.{methods_of, joined}
 use Rattle.http_exchange.specs.Routes.{routes, place_of}
 use Rattle.http_exchange.specs.Failings.{failing_text}
-use Rattle.http_exchange.specs.Responses.{head_text, response_text}
+use Rattle.http_exchange.specs.Responses.{head_text, response_text, status_text}
 use Rattle.http_exchange.specs.Requests.{request_of}
-use Rattle.http_exchange.specs.declared.statuses.Status.TheVariants as status
 use Rattle.http_exchange.specs.declared.failings.Failing.{Failing}
 use Rattle.http_exchange.specs.declared.failings.Failing.TheVariants.{BadRequest, NotFound, WrongMethod, LengthRequired, TooLong, NoMemory}
 use Rattle.http_exchange.specs.declared.places.Place.TheVariants as at
@@ -326,46 +325,46 @@ annotates_too_long = refl
 
 -- ---- responses
 
-created : response_text status.Created [] (codes "run 1\n") ≡ codes "HTTP/1.1 201 Created\r\nContent-Type: text/plain\r\nContent-Length: 6\r\nConnection: close\r\n\r\nrun 1\n"
-unfolding head_text digits
+created : response_text 201 [] (codes "run 1\n") ≡ codes "HTTP/1.1 201 Created\r\nContent-Type: text/plain\r\nContent-Length: 6\r\nConnection: close\r\n\r\nrun 1\n"
+unfolding head_text status_text digits
 created = refl
 
-okay : response_text status.Okay [] [] ≡ codes "HTTP/1.1 200 OK\r\nContent-Type: text/plain\r\nContent-Length: 0\r\nConnection: close\r\n\r\n"
-unfolding head_text digits
+okay : response_text 200 [] [] ≡ codes "HTTP/1.1 200 OK\r\nContent-Type: text/plain\r\nContent-Length: 0\r\nConnection: close\r\n\r\n"
+unfolding head_text status_text digits
 okay = refl
 
 text_of_bad_request : failing_text BadRequest ≡ codes "HTTP/1.1 400 Bad Request\r\nContent-Type: text/plain\r\nContent-Length: 12\r\nConnection: close\r\n\r\nbad request\n"
-unfolding head_text digits
+unfolding head_text status_text digits
 text_of_bad_request = refl
 
 text_of_not_found : failing_text NotFound ≡ codes "HTTP/1.1 404 Not Found\r\nContent-Type: text/plain\r\nContent-Length: 10\r\nConnection: close\r\n\r\nnot found\n"
-unfolding head_text digits
+unfolding head_text status_text digits
 text_of_not_found = refl
 
 text_of_wrong_method : failing_text (WrongMethod at.Member) ≡ codes "HTTP/1.1 405 Method Not Allowed\r\nContent-Type: text/plain\r\nContent-Length: 19\r\nAllow: PUT, DELETE\r\nConnection: close\r\n\r\nmethod not allowed\n"
-unfolding head_text digits
+unfolding head_text status_text digits
 text_of_wrong_method = refl
 
-text_of_conflict : response_text status.Conflict [] (codes "refused: full\n") ≡ codes "HTTP/1.1 409 Conflict\r\nContent-Type: text/plain\r\nContent-Length: 14\r\nConnection: close\r\n\r\nrefused: full\n"
-unfolding head_text digits
+text_of_conflict : response_text 409 [] (codes "refused: full\n") ≡ codes "HTTP/1.1 409 Conflict\r\nContent-Type: text/plain\r\nContent-Length: 14\r\nConnection: close\r\n\r\nrefused: full\n"
+unfolding head_text status_text digits
 text_of_conflict = refl
 
 text_of_length_required : failing_text LengthRequired ≡ codes "HTTP/1.1 411 Length Required\r\nContent-Type: text/plain\r\nContent-Length: 16\r\nConnection: close\r\n\r\nlength required\n"
-unfolding head_text digits
+unfolding head_text status_text digits
 text_of_length_required = refl
 
 text_of_too_long : failing_text TooLong ≡ codes "HTTP/1.1 413 Payload Too Large\r\nContent-Type: text/plain\r\nContent-Length: 18\r\nConnection: close\r\n\r\nrefused: too long\n"
-unfolding head_text digits
+unfolding head_text status_text digits
 text_of_too_long = refl
 
-text_of_unprocessable : head_text status.UnprocessableEntity [] 9 ≡ codes "HTTP/1.1 422 Unprocessable Entity\r\nContent-Type: text/plain\r\nContent-Length: 9\r\nConnection: close\r\n\r\n"
-unfolding head_text digits
+text_of_unprocessable : head_text 422 [] 9 ≡ codes "HTTP/1.1 422 Unprocessable Entity\r\nContent-Type: text/plain\r\nContent-Length: 9\r\nConnection: close\r\n\r\n"
+unfolding head_text status_text digits
 text_of_unprocessable = refl
 
-text_of_store_failure : head_text status.InternalServerError [] 22 ≡ codes "HTTP/1.1 500 Internal Server Error\r\nContent-Type: text/plain\r\nContent-Length: 22\r\nConnection: close\r\n\r\n"
-unfolding head_text digits
+text_of_store_failure : head_text 500 [] 22 ≡ codes "HTTP/1.1 500 Internal Server Error\r\nContent-Type: text/plain\r\nContent-Length: 22\r\nConnection: close\r\n\r\n"
+unfolding head_text status_text digits
 text_of_store_failure = refl
 
 text_of_no_memory : failing_text NoMemory ≡ codes "HTTP/1.1 507 Insufficient Storage\r\nContent-Type: text/plain\r\nContent-Length: 23\r\nConnection: close\r\n\r\nrefused: out of memory\n"
-unfolding head_text digits
+unfolding head_text status_text digits
 text_of_no_memory = refl

@@ -2,18 +2,16 @@
 use Rattle.std.specs.Prelude.{◌≡◌, ◌⊎◌, ℕ, List, [], codes, Result, Ok, Err, MatchResult}
 use Rattle.http_exchange.specs.Places.{methods_of, joined}
 use Rattle.http_exchange.specs.Responses.{response_text}
-use Rattle.http_exchange.specs.declared.statuses.Status.{Status}
-use Rattle.http_exchange.specs.declared.statuses.Status.TheVariants as is
 use Rattle.http_exchange.specs.declared.failings.Failing.{Failing}
 use Rattle.http_exchange.specs.declared.failings.Failing.TheVariants.{BadRequest, NotFound, WrongMethod, LengthRequired, TooLong, NoMemory}
 
-abbrev pub status_of : Failing → Status
-status_of BadRequest = is.BadRequest
-status_of NotFound = is.NotFound
-status_of (WrongMethod place) = is.MethodNotAllowed
-status_of LengthRequired = is.LengthRequired
-status_of TooLong = is.PayloadTooLarge
-status_of NoMemory = is.InsufficientStorage
+abbrev pub status_of : Failing → ℕ
+status_of BadRequest = 400
+status_of NotFound = 404
+status_of (WrongMethod place) = 405
+status_of LengthRequired = 411
+status_of TooLong = 413
+status_of NoMemory = 507
 
 -- the methods of the field Allow; none but for a wrong method
 abbrev pub allow_of : Failing → List ℕ

@@ -3,7 +3,7 @@ ghost use Rattle.std.specs.Prelude.{◌≡◌, ◌≤◌, length};
 ghost use Rattle.http_exchange.specs.Failings as spec;
 
 use crate::places::Place;
-use crate::statuses::Status;
+use http::StatusCode;
 
 /// The check that a request fails.
 #[derive(Clone, Copy, Debug, PartialEq, Eq)]
@@ -24,16 +24,16 @@ pub enum Failing {
 
 impl Failing {
     /// The status of its response.
-    pub fn status(self) -> Status
+    pub fn status(self) -> StatusCode
         ensures { result ≡ spec.status_of self }
     {
         match self {
-            Failing::BadRequest => Status::BadRequest,
-            Failing::NotFound => Status::NotFound,
-            Failing::WrongMethod(_) => Status::MethodNotAllowed,
-            Failing::LengthRequired => Status::LengthRequired,
-            Failing::TooLong => Status::PayloadTooLarge,
-            Failing::NoMemory => Status::InsufficientStorage,
+            Failing::BadRequest => StatusCode::BAD_REQUEST,
+            Failing::NotFound => StatusCode::NOT_FOUND,
+            Failing::WrongMethod(_) => StatusCode::METHOD_NOT_ALLOWED,
+            Failing::LengthRequired => StatusCode::LENGTH_REQUIRED,
+            Failing::TooLong => StatusCode::PAYLOAD_TOO_LARGE,
+            Failing::NoMemory => StatusCode::INSUFFICIENT_STORAGE,
         }
     }
 

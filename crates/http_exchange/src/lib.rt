@@ -31,8 +31,6 @@ mod responses;
 mod routing;
 // A response is written (specs/Streams.antt).
 mod sending;
-// The statuses of responses (specs/Responses.antt).
-mod statuses;
 // The trait of what bytes come from and go to (specs/Streams.antt).
 mod streams;
 // Texts cut at a byte (specs/Texts.antt).
@@ -43,10 +41,10 @@ pub use bodies::{Body, body_comes};
 pub use checks::{Request, SOURCE_LIMIT, read_request};
 pub use failings::Failing;
 pub use heads::{FIELD_LIMIT, HEAD_LIMIT, Head, find_head};
+pub use http::StatusCode;
 pub use places::{Method, Place};
 pub use receiving::{HeadEnd, read_head};
 pub use responses::{RESPONSE_HEAD_ROOM, put_head};
 pub use routing::routes;
 pub use sending::{RESPONSE_ROOM, send, write_all};
-pub use statuses::Status;
 pub use streams::{Stream, StreamFault};

@@ -3,8 +3,9 @@ ghost use Rattle.std.specs.Prelude.{◌≡◌, ◌≤◌, ◌+◌, ◌-◌, ◌+
 ghost use Rattle.http_exchange.specs.Responses.{response_text};
 ghost use Rattle.http_exchange.specs.Streams.{Written, Writes, WentAs};
 
+use crate::put_head;
 use crate::streams::Stream;
-use crate::{Status, put_head};
+use http::StatusCode;
 
 /// Room for the head of a response, and for the front of its body; most responses are written at once.
 pub const RESPONSE_ROOM: usize = 4096;
@@ -56,7 +57,7 @@ fn put_body(room: &mut [u8], at: usize, body: &[u8]) -> usize
 pub fn send<T: Stream>(
     stream: &mut T,
     room: &mut [u8; RESPONSE_ROOM],
-    status: Status,
+    status: StatusCode,
     allow: &str,
     body: &[u8],
 ) -> bool

@@ -4,7 +4,6 @@ use Rattle.shared_texts.specs.Sinks.{HasGone, HasGoneInPart, HasStopped}
 use Rattle.shared_texts.proofs.SinkLemmas.{gone_as}
 use Rattle.http_exchange.specs.Streams.{HaveTaken, IsFront, Written, Writes, WentAs, bytes_written}
 use Rattle.http_exchange.proofs.Steps.{cut_first, went_join, wrote_join}
-use Rattle.http_exchange.specs.declared.statuses.Status.TheVariants.{Okay}
 use Rattle.http_service.specs.Replies.{IsSentAs}
 use Rattle.http_service.specs.declared.replies.Exchange.{Exchange}
 use Rattle.http_service.specs.declared.replies.Exchange.TheVariants as exchanges
@@ -83,8 +82,8 @@ module _ {T : Type 0} (writes : T → Written → T → Type 0) where
 
   -- the head that has not gone goes behind it, where there is one
   pub sent_as : (from : Sending T) (text : List ℕ) (between : Sending T) (to : T) (exchange : Exchange) → Sent from text between
-      → (written : List Written) × Writes writes between.stream written to × IsSentAs Okay between.head.now exchange written
-      → (written : List Written) × Writes writes from.stream written to × IsSentAs Okay (from.head.now ++ text) exchange written
+      → (written : List Written) × Writes writes between.stream written to × IsSentAs 200 between.head.now exchange written
+      → (written : List Written) × Writes writes from.stream written to × IsSentAs 200 (from.head.now ++ text) exchange written
   sent_as from text between to (exchanges.Sent code) sent last =
       let all = join true from.stream between.stream to sent.0 between.head.now sent.1 (last.0, last.1, last.2.1) in
       (all.0, all.1, (last.2.0, subst (λ l. WentAs true l all.0) sent.2 all.2))

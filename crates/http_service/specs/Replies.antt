@@ -7,11 +7,9 @@ use Rattle.histories.specs.declared.answers.Refusal.{Refusal}
 use Rattle.histories.specs.declared.answers.Refusal.TheVariants as reasons
 use Rattle.answer_lines.specs.Answers.{line_text, takes_memory}
 use Rattle.http_exchange.specs.Failings as checks
-use Rattle.http_exchange.specs.Responses.{code_of, response_text}
+use Rattle.http_exchange.specs.Responses.{response_text}
 use Rattle.http_exchange.specs.declared.failings.Failing.{Failing}
 use Rattle.http_exchange.specs.declared.failings.Failing.TheVariants.{NoMemory}
-use Rattle.http_exchange.specs.declared.statuses.Status.{Status}
-use Rattle.http_exchange.specs.declared.statuses.Status.TheVariants as is
 use Rattle.warehouse.specs.Answered.{IsGivenFor}
 use Rattle.http_exchange.specs.Streams.{HaveTaken, IsFront, Written, WentAs, bytes_written}
 use Rattle.http_service.specs.declared.replies.Exchange.{Exchange}
@@ -20,29 +18,29 @@ use Rattle.http_service.specs.declared.replies.Reply.{Reply}
 use Rattle.http_service.specs.declared.replies.Reply.TheVariants as replies
 
 -- the status of a refusal
-abbrev pub refused_status : Refusal → Status
-refused_status reasons.Memory = is.InsufficientStorage
-refused_status reasons.Store = is.InternalServerError
-refused_status reasons.ReadFault = is.BadRequest
-refused_status reasons.TooLong = is.PayloadTooLarge
-refused_status (reasons.File fault line) = is.UnprocessableEntity
-refused_status (reasons.Overflow excess) = is.UnprocessableEntity
-refused_status reasons.Full = is.Conflict
-refused_status reasons.NumbersSpent = is.Conflict
-refused_status reasons.NoSuchRun = is.NotFound
-refused_status reasons.NoSuchGroup = is.NotFound
-refused_status reasons.GroupTaken = is.Conflict
-refused_status reasons.BadName = is.BadRequest
-refused_status reasons.NoSuchEvent = is.NotFound
-refused_status reasons.NoSuchName = is.NotFound
-refused_status reasons.NoBaseline = is.NotFound
+abbrev pub refused_status : Refusal → ℕ
+refused_status reasons.Memory = 507
+refused_status reasons.Store = 500
+refused_status reasons.ReadFault = 400
+refused_status reasons.TooLong = 413
+refused_status (reasons.File fault line) = 422
+refused_status (reasons.Overflow excess) = 422
+refused_status reasons.Full = 409
+refused_status reasons.NumbersSpent = 409
+refused_status reasons.NoSuchRun = 404
+refused_status reasons.NoSuchGroup = 404
+refused_status reasons.GroupTaken = 409
+refused_status reasons.BadName = 400
+refused_status reasons.NoSuchEvent = 404
+refused_status reasons.NoSuchName = 404
+refused_status reasons.NoBaseline = 404
 
 -- the status of an answer
-abbrev pub status_of : Answer → Status
-status_of (answers.Run n) = is.Created
-status_of (answers.Held n) = is.Okay
-status_of answers.Done = is.Okay
-status_of (answers.Text text) = is.Okay
+abbrev pub status_of : Answer → ℕ
+status_of (answers.Run n) = 201
+status_of (answers.Held n) = 200
+status_of answers.Done = 200
+status_of (answers.Text text) = 200
 status_of (answers.Refused refusal) = refused_status refusal
 
 -- what a reply says: that a check failed, or an answer; of sums their text, or that there is no memory for it
@@ -54,9 +52,9 @@ Says (replies.Summed sums) said = (answer : Answer) × IsGivenFor answer (Ok sum
 -- ---- what is sent
 
 -- all of a text was written, under this status; or only its front, since a write failed
-abbrev pub IsSentAs : Status → List ℕ → Exchange → List Written → Type 0
-IsSentAs status text (exchanges.Sent code) writes = (code ≡ code_of status) × WentAs true text writes
-IsSentAs status text (exchanges.WriteFault code) writes = (code ≡ code_of status) × WentAs false text writes
+abbrev pub IsSentAs : ℕ → List ℕ → Exchange → List Written → Type 0
+IsSentAs status text (exchanges.Sent code) writes = (code ≡ status) × WentAs true text writes
+IsSentAs status text (exchanges.WriteFault code) writes = (code ≡ status) × WentAs false text writes
 IsSentAs status text exchanges.ReadFault writes = ⊥
 
 -- the response of a check that failed
@@ -71,8 +69,8 @@ IsAnswerSent answer exchange writes = IsSentAs (status_of answer) (response_text
 pub record IsCutShort (answer : Answer) (exchange : Exchange) (writes : List Written) : Type 0 where
   pub sums : List (EventSpot × ℕ)
   pub answer_is : answer ≡ answers.Text (csv_text sums)
-  pub exchange_is : exchange ≡ exchanges.WriteFault (code_of is.Okay)
-  pub front : IsFront (bytes_written writes) (response_text is.Okay [] (csv_text sums))
+  pub exchange_is : exchange ≡ exchanges.WriteFault 200
+  pub front : IsFront (bytes_written writes) (response_text 200 [] (csv_text sums))
   pub taken : HaveTaken writes
 
 -- the response of what a reply says was sent; where there is no memory for the line of an answer, that is said in its place

@@ -3,7 +3,6 @@ ghost use Rattle.std.specs.Prelude.{◌≡◌, ◌≤◌, [], length, List, Ok, 
 ghost use Rattle.http_exchange.specs.Streams.{Written, Writes};
 ghost use Rattle.http_exchange.specs.Responses.{response_text};
 ghost use Rattle.http_exchange.specs.declared.failings.Failing as check;
-ghost use Rattle.http_exchange.specs.declared.statuses.Status.TheVariants.{Okay};
 ghost use Rattle.histories.specs.declared.answers.Answer as given;
 ghost use Rattle.http_service.specs.Replies as spec;
 
@@ -11,7 +10,7 @@ use crate::sending::{send_pieces, send_sums};
 use answer_lines::line_of;
 use cost_exports::CellSums;
 use histories::{Answer, Refusal};
-use http_exchange::{Failing, RESPONSE_ROOM, Status, Stream, put_head, send};
+use http_exchange::{Failing, RESPONSE_ROOM, StatusCode, Stream, put_head, send};
 use shared_texts::SharedText;
 use std::alloc::{AllocError, Global};
 
@@ -39,31 +38,31 @@ pub enum Reply {
 }
 
 /// The status of a refusal.
-fn refused_status(refusal: &Refusal) -> Status
+fn refused_status(refusal: &Refusal) -> StatusCode
     ensures { result ≡ spec.refused_status refusal.now }
 {
     match refusal {
-        Refusal::Memory => Status::InsufficientStorage,
-        Refusal::Store => Status::InternalServerError,
-        Refusal::ReadFault | Refusal::BadName => Status::BadRequest,
-        Refusal::TooLong => Status::PayloadTooLarge,
-        Refusal::File(_, _) | Refusal::Overflow(_) => Status::UnprocessableEntity,
-        Refusal::Full | Refusal::NumbersSpent | Refusal::GroupTaken => Status::Conflict,
+        Refusal::Memory => StatusCode::INSUFFICIENT_STORAGE,
+        Refusal::Store => StatusCode::INTERNAL_SERVER_ERROR,
+        Refusal::ReadFault | Refusal::BadName => StatusCode::BAD_REQUEST,
+        Refusal::TooLong => StatusCode::PAYLOAD_TOO_LARGE,
+        Refusal::File(_, _) | Refusal::Overflow(_) => StatusCode::UNPROCESSABLE_ENTITY,
+        Refusal::Full | Refusal::NumbersSpent | Refusal::GroupTaken => StatusCode::CONFLICT,
         Refusal::NoSuchRun
         | Refusal::NoSuchGroup
         | Refusal::NoSuchEvent
         | Refusal::NoSuchName
-        | Refusal::NoBaseline => Status::NotFound,
+        | Refusal::NoBaseline => StatusCode::NOT_FOUND,
     }
 }
 
 /// The status of an answer.
-fn status_of(answer: &Answer) -> Status
+fn status_of(answer: &Answer) -> StatusCode
     ensures { result ≡ spec.status_of answer.now }
 {
     match answer {
-        Answer::Run(_) => Status::Created,
-        Answer::Held(_) | Answer::Done | Answer::Text(_) => Status::Okay,
+        Answer::Run(_) => StatusCode::CREATED,
+        Answer::Held(_) | Answer::Done | Answer::Text(_) => StatusCode::OK,
         Answer::Refused(refusal) => refused_status(refusal),
     }
 }
@@ -72,7 +71,7 @@ fn status_of(answer: &Answer) -> Status
 fn send_as<T: Stream>(
     stream: &mut T,
     room: &mut [u8; RESPONSE_ROOM],
-    status: Status,
+    status: StatusCode,
     allow: &str,
     body: &[u8],
 ) -> Exchange
@@ -81,9 +80,9 @@ fn send_as<T: Stream>(
         × spec.IsSentAs status (response_text status allow.now body.now) result writes }
 {
     if send(stream, room, status, allow, body) {
-        Exchange::Sent(status.code())
+        Exchange::Sent(status.as_u16())
     } else {
-        Exchange::WriteFault(status.code())
+        Exchange::WriteFault(status.as_u16())
     }
 }
 
@@ -107,16 +106,16 @@ fn send_text<T: Stream + Drop>(
     text: &SharedText,
 ) -> (Exchange, T)
     ensures { (writes : List Written) × Writes T.writes stream writes result.1
-        × spec.IsSentAs Okay (response_text Okay [] text.now) result.0 writes }
+        × spec.IsSentAs 200 (response_text 200 [] text.now) result.0 writes }
 {
     let mut stream = stream;
     match text.as_slice() {
         Some(bytes) => {
-            let exchange = send_as(&mut stream, room, Status::Okay, "", bytes);
+            let exchange = send_as(&mut stream, room, StatusCode::OK, "", bytes);
             (exchange, stream)
         }
         None => {
-            let end = put_head(room, Status::Okay, "", text.len());
+            let end = put_head(room, StatusCode::OK, "", text.len());
             send_pieces(alloc, stream, &room[..end], text)
         }
     }

@@ -7,13 +7,12 @@ ghost use Rattle.histories.specs.declared.answers.Refusal.TheVariants.{Memory};
 ghost use Rattle.warehouse.specs.Answered.{IsGivenFor};
 ghost use Rattle.http_exchange.specs.Responses.{head_text, response_text};
 ghost use Rattle.http_exchange.specs.Streams.{Written, Writes};
-ghost use Rattle.http_exchange.specs.declared.statuses.Status.TheVariants.{Okay};
 ghost use Rattle.http_service.specs.Replies.{IsReplySent, IsSentAs};
 
 use crate::replies::{Exchange, send_answer};
 use cost_exports::{CellSums, Unwritten, csv_length, write_csv};
 use histories::{Answer, Refusal};
-use http_exchange::{RESPONSE_ROOM, Status, Stream, put_head, write_all};
+use http_exchange::{RESPONSE_ROOM, StatusCode, Stream, put_head, write_all};
 use shared_texts::{SharedText, TextSink};
 use std::alloc::Global;
 use std::io;
@@ -75,9 +74,9 @@ fn send_refusal<T: Stream + Drop>(
 
 /// Sends the last bytes of a response.
 fn send_end<T: Stream>(stream: &mut T, bytes: &[u8]) -> Exchange
-    ensures { (writes : List Written) × Writes T.writes stream.old writes stream.new × IsSentAs Okay bytes.now result writes }
+    ensures { (writes : List Written) × Writes T.writes stream.old writes stream.new × IsSentAs 200 bytes.now result writes }
 {
-    let code = Status::Okay.code();
+    let code = StatusCode::OK.as_u16();
     if write_all(stream, bytes) {
         Exchange::Sent(code)
     } else {
@@ -92,8 +91,8 @@ pub(crate) fn send_pieces<T: Stream + Drop>(
     head: &[u8],
     text: &SharedText,
 ) -> (Exchange, T)
-    requires { head.now ≡ head_text Okay [] (length text.now) }
-    ensures { (writes : List Written) × Writes T.writes stream writes result.1 × IsSentAs Okay (response_text Okay [] text.now) result.0 writes }
+    requires { head.now ≡ head_text 200 [] (length text.now) }
+    ensures { (writes : List Written) × Writes T.writes stream writes result.1 × IsSentAs 200 (response_text 200 [] text.now) result.0 writes }
 {
     let mut sending = Sending { stream, head };
     match text.write(alloc, &mut sending) {
@@ -104,7 +103,7 @@ pub(crate) fn send_pieces<T: Stream + Drop>(
             (exchange, stream)
         }
         Err(_) => {
-            let code = Status::Okay.code();
+            let code = StatusCode::OK.as_u16();
             (Exchange::WriteFault(code), sending.into_stream())
         }
     }
@@ -117,7 +116,7 @@ fn send_csv<T: Stream + Drop>(
     head: &[u8],
     sums: &CellSums,
 ) -> (Option<Exchange>, T)
-    requires { head.now ≡ head_text Okay [] (length (csv_text sums.now)) }
+    requires { head.now ≡ head_text 200 [] (length (csv_text sums.now)) }
     ensures sent { IfSome result.0 (λ exchange. (writes : List Written) × Writes T.writes stream writes result.1
         × IsReplySent (Ok (Text (csv_text sums.now))) exchange writes) }
     ensures none { result.0 ≡ None → result.1 ≡ stream }
@@ -133,7 +132,7 @@ fn send_csv<T: Stream + Drop>(
         }
         Err(Unwritten::Memory) => (None, sending.into_stream()),
         Err(Unwritten::Failed(_error)) => {
-            let code = Status::Okay.code();
+            let code = StatusCode::OK.as_u16();
             (Some(Exchange::WriteFault(code)), sending.into_stream())
         }
     }
@@ -154,7 +153,7 @@ pub(crate) fn send_sums<T: Stream + Drop>(
     let Ok(size) = csv_length(alloc, most, sums) else {
         return send_refusal(alloc, stream, room);
     };
-    let end = put_head(room, Status::Okay, "", size);
+    let end = put_head(room, StatusCode::OK, "", size);
     match send_csv(alloc, stream, &room[..end], sums) {
         (Some(exchange), stream) => (exchange, stream),
         (None, stream) => send_refusal(alloc, stream, room),

@@ -1,7 +1,6 @@
 use Rattle.std.proofs.Common.{◌∙◌, false, inl, inr, ◌++◌, sym, refl, ap, subst}
 use Rattle.report_texts.specs.Csv.{csv_text}
 use Rattle.http_exchange.specs.Streams.{IsFront, WentAs, Writes, bytes_written}
-use Rattle.http_exchange.specs.declared.statuses.Status.TheVariants.{Okay}
 use Rattle.http_service.specs.Replies.{IsSentAs}
 use Rattle.http_service.specs.declared.replies.Exchange.TheVariants.{WriteFault}
 use Rattle.http_service.specs.declared.sending.Sending.{Sending}
@@ -16,7 +15,7 @@ returns-in-Ok-clause-sent g c =
     let exchange = c.send_end-exchange.result in
     let sent = sent_all g.T.Stream.writes from text between c.in-Ok.ensures.whole in
     let all = sent_as g.T.Stream.writes from text between c.send_end-exchange.new.stream exchange sent c.send_end-exchange.ensures in
-    (all.0, all.1, inl (subst (λ l. IsSentAs Okay (l ++ text) exchange all.0) c.requires all.2))
+    (all.0, all.1, inl (subst (λ l. IsSentAs 200 (l ++ text) exchange all.0) c.requires all.2))
 
 pub returns-in-Err-Memory-clause-none : goal.returns-in-Err-Memory-clause-none
 returns-in-Err-Memory-clause-none g c is = c.into_stream.ensures ∙ ap (λ s. s.stream) (c.in-Err-Memory.ensures.none c.in-Err-Memory.field-0-is)

@@ -1,6 +1,5 @@
 use Rattle.std.proofs.Common.{false, ◌++◌, sym, subst}
 use Rattle.http_exchange.specs.Streams.{WentAs, Writes}
-use Rattle.http_exchange.specs.declared.statuses.Status.TheVariants.{Okay}
 use Rattle.http_service.specs.Replies.{IsSentAs}
 use Rattle.http_service.specs.declared.sending.Sending.{Sending}
 use Rattle.http_service.proofs.SendingLemmas.{sent_all, sent_as, sent_stopped}
@@ -14,7 +13,7 @@ returns-in-Ok g c =
     let exchange = c.send_end-exchange.result in
     let sent = sent_all g.T.Stream.writes from text between c.in-Ok.ensures.whole in
     let all = sent_as g.T.Stream.writes from text between c.send_end-exchange.new.stream exchange sent c.send_end-exchange.ensures in
-    (all.0, all.1, subst (λ l. IsSentAs Okay (l ++ text) exchange all.0) c.requires all.2)
+    (all.0, all.1, subst (λ l. IsSentAs 200 (l ++ text) exchange all.0) c.requires all.2)
 
 pub returns-in-Err : goal.returns-in-Err
 returns-in-Err g c =
