@@ -22,7 +22,7 @@ added_in_order start cells arcs stacks xs ys zs one two three =
 pub new-sums-requires-2-clause-key : goal.new-sums-requires-2-clause-key
 new-sums-requires-2-clause-key c =
     let all = added_in_order c.new-sums.result c.add_cells.new.sums c.add_arcs.new.sums c.add_stacks.new.sums (plain_cells c.args.cells.now)
-        (outward_costs (calls_in c.args.arcs.now)) (row_costs (plain_stacks c.args.stacks.now)) c.in_ok-add_cells.ensures.sums c.in_ok-add_arcs.ensures.sums c.in_ok-add_stacks.ensures.sums in
+    (outward_costs (calls_in c.args.arcs.now)) (row_costs (plain_stacks c.args.stacks.now)) c.in_ok-add_cells.ensures.sums c.in_ok-add_arcs.ensures.sums c.in_ok-add_stacks.ensures.sums in
     ap (λ (s : Sums). s.key) all ∙ keeps_key c.new-sums.result (plain_cells c.args.cells.now ++ rows_of (outward_costs (calls_in c.args.arcs.now) ++ row_costs (plain_stacks c.args.stacks.now))) ∙ c.new-sums.ensures.key
 
 pub returns : goal.returns
@@ -31,7 +31,7 @@ returns c =
     let arcs = calls_in c.args.arcs.now in
     let stacks = plain_stacks c.args.stacks.now in
     let all = added_in_order c.new-sums.result c.add_cells.new.sums c.add_arcs.new.sums c.add_stacks.new.sums cells
-        (outward_costs arcs) (row_costs stacks) c.in_ok-add_cells.ensures.sums c.in_ok-add_arcs.ensures.sums c.in_ok-add_stacks.ensures.sums in
+    (outward_costs arcs) (row_costs stacks) c.in_ok-add_cells.ensures.sums c.in_ok-add_arcs.ensures.sums c.in_ok-add_stacks.ensures.sums in
     let start : c.new-sums.result ≡ record { key = Function; sums = [] } = ap₂ (λ key sums. record { key = key; sums = sums }) c.new-sums.ensures.key c.new-sums.ensures.sums in
     let sums = c.new-sums-2.ensures.sums ∙ ap (λ (s : Sums). s.sums) all ∙ ap (λ s. (fold with_row s (cells ++ rows_of (outward_costs arcs ++ row_costs stacks))).sums) start in
     let self_cost = c.total-self_cost.ensures.value in
