@@ -3,7 +3,7 @@ ghost use Rattle.std.specs.Prelude.{◌≡◌, ◌∷◌, List, fold, map, IfOk}
 ghost use Rattle.sqlite_record.specs.Fields.{fields_left};
 ghost use Rattle.page_files.specs.Files.{IsFaithful, OnlyReads};
 ghost use Rattle.plain_tables.specs.RunRows.{cells_in, calls_in, stacks_in};
-ghost use Rattle.plain_tables.specs.Tables.{Tables, StoredCell, StoredCall, StoredStack};
+ghost use Rattle.plain_tables.specs.Tables.{Tables, StoredCell as Cell, StoredCall as Call, StoredStack as Stack};
 ghost use Rattle.prof_books.specs.Book.{stacks_held};
 ghost use Rattle.run_stores.specs.Walks.{CallsFoldTo, CellsFoldTo, cell_numbers};
 ghost use Rattle.store_schema.specs.Lines.{call_row, cell_row, held_stack};
@@ -97,12 +97,12 @@ struct GatheredLines<T> {
 
 impl<T: CellSink + Drop> LineSink for GatheredLines<T> {
     ghost use Rattle.std.specs.Prelude.{ℕ};
-    ghost use Rattle.plain_tables.specs.Tables.{StoredCell};
+    ghost use Rattle.plain_tables.specs.Tables.{StoredCell as Cell};
     ghost use Rattle.store_schema.specs.Tables.{cell_columns};
     ghost use Rattle.held_lines.specs.HeldCells.{HasTakenCellLines};
     ghost use Rattle.page_runs.specs.Kept.{HasGathered};
 
-    ghost Line = { StoredCell };
+    ghost Line = { Cell };
 
     ghost part = { λ line. line.event };
 
@@ -218,9 +218,9 @@ pub(crate) fn each_cell<D: Disk, T: CellSink + Drop>(
     events: usize,
     sink: T,
 ) -> Result<(T, Gathered), StoreError>
-    ensures told { IsFaithful file.new → (t : Tables) → ShowsLines file.old table.root cell_columns (λ (c : StoredCell). c.run) t.cells
+    ensures told { IsFaithful file.new → (t : Tables) → ShowsLines file.old table.root cell_columns (λ (c : Cell). c.run) t.cells
         → IfOk result (λ r. CellsFoldTo events T.step (T.meaning sink) (T.meaning r.0) (cells_in table.run t)
-        × SumTo (λ (c : StoredCell). c.event) (λ (c : StoredCell). c.cost) (cells_in table.run t) table.sums.items × HasGathered (cells_in table.run t) r.1) }
+        × SumTo (λ (c : Cell). c.event) (λ (c : Cell). c.cost) (cells_in table.run t) table.sums.items × HasGathered (cells_in table.run t) r.1) }
     ensures reads { OnlyReads file.old file.new }
 {
     let lines = GatheredLines {
