@@ -21,7 +21,7 @@ use Rattle.histories.specs.declared.answers.Refusal.TheVariants as reasons
 use Rattle.requests.specs.declared.selections.Selection.TheVariants as selections
 use Rattle.answer_lines.specs.Answers.{line_text}
 use Rattle.http_exchange.specs.Requests.{request_of}
-use Rattle.http_exchange.specs.Responses.{head_text, response_text}
+use Rattle.http_exchange.specs.Responses.{head_text, response_text, status_text}
 use Rattle.http_exchange.specs.Routes.{routes}
 use Rattle.http_exchange.specs.declared.failings.Failing.{Failing}
 use Rattle.http_exchange.specs.declared.checks.Request.{Request}
@@ -134,81 +134,81 @@ abbrev refusal_text : Refusal → List ℕ
 refusal_text refusal = answer_text (answers.Refused refusal)
 
 text_of_run : answer_text (answers.Run 12) ≡ codes "HTTP/1.1 201 Created\r\nContent-Type: text/plain\r\nContent-Length: 7\r\nConnection: close\r\n\r\nrun 12\n"
-unfolding head_text digits
+unfolding head_text status_text digits
 text_of_run = refl
 
 text_of_held : answer_text (answers.Held 2) ≡ codes "HTTP/1.1 200 OK\r\nContent-Type: text/plain\r\nContent-Length: 7\r\nConnection: close\r\n\r\nheld 2\n"
-unfolding head_text digits
+unfolding head_text status_text digits
 text_of_held = refl
 
 text_of_done : answer_text answers.Done ≡ codes "HTTP/1.1 200 OK\r\nContent-Type: text/plain\r\nContent-Length: 5\r\nConnection: close\r\n\r\ndone\n"
-unfolding head_text digits
+unfolding head_text status_text digits
 text_of_done = refl
 
 text_of_text : answer_text (answers.Text (codes "0 0 rest\n")) ≡ codes "HTTP/1.1 200 OK\r\nContent-Type: text/plain\r\nContent-Length: 9\r\nConnection: close\r\n\r\n0 0 rest\n"
-unfolding head_text digits
+unfolding head_text status_text digits
 text_of_text = refl
 
 text_of_empty_text : answer_text (answers.Text []) ≡ codes "HTTP/1.1 200 OK\r\nContent-Type: text/plain\r\nContent-Length: 0\r\nConnection: close\r\n\r\n"
-unfolding head_text digits
+unfolding head_text status_text digits
 text_of_empty_text = refl
 
 text_of_no_memory : refusal_text reasons.Memory ≡ codes "HTTP/1.1 507 Insufficient Storage\r\nContent-Type: text/plain\r\nContent-Length: 23\r\nConnection: close\r\n\r\nrefused: out of memory\n"
-unfolding head_text digits
+unfolding head_text status_text digits
 text_of_no_memory = refl
 
 text_of_store_failure : refusal_text reasons.Store ≡ codes "HTTP/1.1 500 Internal Server Error\r\nContent-Type: text/plain\r\nContent-Length: 22\r\nConnection: close\r\n\r\nrefused: store failed\n"
-unfolding head_text digits
+unfolding head_text status_text digits
 text_of_store_failure = refl
 
 text_of_read_fault : refusal_text reasons.ReadFault ≡ codes "HTTP/1.1 400 Bad Request\r\nContent-Type: text/plain\r\nContent-Length: 21\r\nConnection: close\r\n\r\nrefused: read failed\n"
-unfolding head_text digits
+unfolding head_text status_text digits
 text_of_read_fault = refl
 
 text_of_too_long : refusal_text reasons.TooLong ≡ codes "HTTP/1.1 413 Payload Too Large\r\nContent-Type: text/plain\r\nContent-Length: 18\r\nConnection: close\r\n\r\nrefused: too long\n"
-unfolding head_text digits
+unfolding head_text status_text digits
 text_of_too_long = refl
 
 text_of_bad_file : refusal_text (reasons.File faults.FoldedLine 2) ≡ codes "HTTP/1.1 422 Unprocessable Entity\r\nContent-Type: text/plain\r\nContent-Length: 33\r\nConnection: close\r\n\r\nrefused: line 2: F19 folded line\n"
-unfolding head_text digits
+unfolding head_text status_text digits
 text_of_bad_file = refl
 
 text_of_overflow : refusal_text (reasons.Overflow (excesses.SelfCost (codes "Ir"))) ≡ codes "HTTP/1.1 422 Unprocessable Entity\r\nContent-Type: text/plain\r\nContent-Length: 34\r\nConnection: close\r\n\r\nrefused: overflow of self cost Ir\n"
-unfolding head_text digits
+unfolding head_text status_text digits
 text_of_overflow = refl
 
 text_of_full : refusal_text reasons.Full ≡ codes "HTTP/1.1 409 Conflict\r\nContent-Type: text/plain\r\nContent-Length: 14\r\nConnection: close\r\n\r\nrefused: full\n"
-unfolding head_text digits
+unfolding head_text status_text digits
 text_of_full = refl
 
 text_of_numbers_spent : refusal_text reasons.NumbersSpent ≡ codes "HTTP/1.1 409 Conflict\r\nContent-Type: text/plain\r\nContent-Length: 27\r\nConnection: close\r\n\r\nrefused: run numbers spent\n"
-unfolding head_text digits
+unfolding head_text status_text digits
 text_of_numbers_spent = refl
 
 text_of_no_run : refusal_text reasons.NoSuchRun ≡ codes "HTTP/1.1 404 Not Found\r\nContent-Type: text/plain\r\nContent-Length: 21\r\nConnection: close\r\n\r\nrefused: no such run\n"
-unfolding head_text digits
+unfolding head_text status_text digits
 text_of_no_run = refl
 
 text_of_no_group : refusal_text reasons.NoSuchGroup ≡ codes "HTTP/1.1 404 Not Found\r\nContent-Type: text/plain\r\nContent-Length: 23\r\nConnection: close\r\n\r\nrefused: no such group\n"
-unfolding head_text digits
+unfolding head_text status_text digits
 text_of_no_group = refl
 
 text_of_group_taken : refusal_text reasons.GroupTaken ≡ codes "HTTP/1.1 409 Conflict\r\nContent-Type: text/plain\r\nContent-Length: 22\r\nConnection: close\r\n\r\nrefused: group exists\n"
-unfolding head_text digits
+unfolding head_text status_text digits
 text_of_group_taken = refl
 
 text_of_bad_name : refusal_text reasons.BadName ≡ codes "HTTP/1.1 400 Bad Request\r\nContent-Type: text/plain\r\nContent-Length: 18\r\nConnection: close\r\n\r\nrefused: bad name\n"
-unfolding head_text digits
+unfolding head_text status_text digits
 text_of_bad_name = refl
 
 text_of_no_event : refusal_text reasons.NoSuchEvent ≡ codes "HTTP/1.1 404 Not Found\r\nContent-Type: text/plain\r\nContent-Length: 23\r\nConnection: close\r\n\r\nrefused: no such event\n"
-unfolding head_text digits
+unfolding head_text status_text digits
 text_of_no_event = refl
 
 text_of_no_name : refusal_text reasons.NoSuchName ≡ codes "HTTP/1.1 404 Not Found\r\nContent-Type: text/plain\r\nContent-Length: 22\r\nConnection: close\r\n\r\nrefused: no such name\n"
-unfolding head_text digits
+unfolding head_text status_text digits
 text_of_no_name = refl
 
 text_of_no_baseline : refusal_text reasons.NoBaseline ≡ codes "HTTP/1.1 404 Not Found\r\nContent-Type: text/plain\r\nContent-Length: 21\r\nConnection: close\r\n\r\nrefused: no baseline\n"
-unfolding head_text digits
+unfolding head_text status_text digits
 text_of_no_baseline = refl
