@@ -26,14 +26,14 @@ returns-in-Err-Failed-clause-sent g c =
     let from : Sending g.row.T.Denot = record { stream = c.args.stream; head = c.args.head } in
     let to = sym c.into_stream-in-Err-Failed.ensures in
     elim (sent_part g.T.Stream.writes from text c.write_csv.new.out c.in-Err-Failed.ensures.part) [
-      | inl cut ↦ (cut.0, subst (λ (t : g.row.T.Denot). Writes g.T.Stream.writes c.args.stream cut.0 t) to cut.1, inl (c.code-code.ensures, subst (λ l. WentAs false (l ++ text) cut.0) c.requires cut.2))
+      | inl cut ↦ (cut.0, subst (λ (t : g.row.T.Denot). Writes g.T.Stream.writes c.args.stream cut.0 t) to cut.1, inl (c.as_u16-code.ensures.value, subst (λ l. WentAs false (l ++ text) cut.0) c.requires cut.2))
       | inr short ↦ (
         short.0,
         subst (λ (t : g.row.T.Denot). Writes g.T.Stream.writes c.args.stream short.0 t) to short.1,
         inr (inr (record {
           sums = c.args.sums.now;
           answer_is = refl;
-          exchange_is = ap WriteFault c.code-code.ensures;
+          exchange_is = ap WriteFault c.as_u16-code.ensures.value;
           front = subst (λ l. IsFront (bytes_written short.0) (l ++ text)) c.requires short.2;
           taken = short.3;
         })),

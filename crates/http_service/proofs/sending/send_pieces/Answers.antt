@@ -20,4 +20,4 @@ returns-in-Err g c =
     let text = c.args.text.now in
     let from : Sending g.row.T.Denot = record { stream = c.args.stream; head = c.args.head } in
     let cut = sent_stopped g.T.Stream.writes from text c.write.new.out c.in-Err.ensures.part in
-    (cut.0, subst (λ (t : g.row.T.Denot). Writes g.T.Stream.writes c.args.stream cut.0 t) (sym c.into_stream.ensures) cut.1, (c.code-code.ensures, subst (λ l. WentAs false (l ++ text) cut.0) c.requires cut.2))
+    (cut.0, subst (λ (t : g.row.T.Denot). Writes g.T.Stream.writes c.args.stream cut.0 t) (sym c.into_stream.ensures) cut.1, (c.as_u16-code.ensures.value, subst (λ l. WentAs false (l ++ text) cut.0) c.requires cut.2))
