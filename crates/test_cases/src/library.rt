@@ -67,16 +67,6 @@ pub fn derived_events_have_a_value(alloc: Global) -> Result<(), Fail> {
 /// A cost line of 20 and 1, and three calls that cost 400 of the first event.
 const CALLS: &[u8] = b"events: Ir Dr\nfl=a.c\nfn=main\n16 20 1\ncfn=g\ncalls=3 50\n17 400\n";
 
-/// Whether a file is read into rows.
-fn is_read(alloc: Global, rows: &mut FileRows, text: &[u8]) -> bool {
-    let Ok(mut reader) = Reader::new(alloc) else {
-        return false;
-    };
-    text.len() as u64 <= reader.room()
-        && reader.feed(text, rows).is_ok()
-        && reader.finish(rows).is_ok()
-}
-
 /// Whether a row is the cost of an event at line 16 of `main`.
 fn is_cost(row: Option<CellRow<&[u8]>>, event: usize, cost: u128) -> bool {
     let Some(row) = row else {
@@ -115,10 +105,20 @@ fn are_of_calls(rows: &FileRows) -> bool {
         && calls.next().is_none()
 }
 
-pub fn rows_of_a_file_have_their_names(alloc: Global) -> Result<(), Fail> {
+/// Whether `CALLS` is read into its rows.
+fn calls_are_read(alloc: Global) -> bool {
+    let Ok(mut reader) = Reader::new(alloc) else {
+        return false;
+    };
     let mut rows = FileRows::new(alloc);
-    let are_so = is_read(alloc, &mut rows, CALLS) && are_of_calls(&rows);
-    holds(are_so, "other rows")
+    CALLS.len() as u64 <= reader.room()
+        && reader.feed(CALLS, &mut rows).is_ok()
+        && reader.finish(&mut rows).is_ok()
+        && are_of_calls(&rows)
+}
+
+pub fn rows_of_a_file_have_their_names(alloc: Global) -> Result<(), Fail> {
+    holds(calls_are_read(alloc), "other rows")
 }
 
 /// A file is imported, a source annotated, the run put into a group and removed.
