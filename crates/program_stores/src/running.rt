@@ -1,6 +1,8 @@
 // What the words of a command line say is done, over the files that they name.
 ghost use Rattle.std.specs.Prelude.{◌≡◌, ◌≤◌};
+ghost use Rattle.std.specs.List.{list_all};
 ghost use Rattle.program_stores.specs.Jobs as specs;
+ghost use Rattle.requests.specs.Plain.{only_reads};
 
 use crate::beside::{Beside, look_beside, work_beside};
 use crate::reading::{StoreInPages, pages_at, pages_to_change_at};
@@ -30,6 +32,13 @@ fn tell_person(rt: &HostRuntime, db: &str, found: &str) {
     if rt.stderr().is_terminal() {
         let _told = eprintln!(rt; "{db}: {found}");
     }
+}
+
+/// Whether commands change nothing, whatever the store holds.
+fn only_read(commands: &[WordsCommand<'_>]) -> bool
+    ensures { result ≡ list_all only_reads commands.now }
+{
+    commands.iter().all(|command| command.only_reads())
 }
 
 /// What is done over the store at a path.
@@ -68,7 +77,7 @@ impl<'a> Job<'_, 'a> {
         ensures { result ≡ specs.changes_nothing self.now }
     {
         match self {
-            Job::Run(commands) => commands.iter().all(|command| command.only_reads()),
+            Job::Run(commands) => only_read(commands),
             Job::Serve(_) => false,
         }
     }
