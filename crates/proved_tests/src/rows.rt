@@ -3,13 +3,13 @@ use row_cases::{changes, exchanges, plain_rows, records, reports, totals};
 use std::test::Fail;
 
 #[test]
-fn totals(rt: HostRuntime) -> Result<(), Fail> {
+fn worked_totals(rt: HostRuntime) -> Result<(), Fail> {
     let alloc = rt.alloc();
     totals::totals_of_files(alloc)
 }
 
 #[test]
-fn reports(rt: HostRuntime) -> Result<(), Fail> {
+fn worked_reports(rt: HostRuntime) -> Result<(), Fail> {
     let alloc = rt.alloc();
     reports::calls_of_the_manual(alloc)?;
     reports::two_writings_of_one_profile(alloc)?;
@@ -29,7 +29,7 @@ fn reports(rt: HostRuntime) -> Result<(), Fail> {
 }
 
 #[test]
-fn changes(rt: HostRuntime) -> Result<(), Fail> {
+fn worked_changes(rt: HostRuntime) -> Result<(), Fail> {
     let alloc = rt.alloc();
     changes::a_file_is_held_once(alloc)?;
     changes::self_costs_have_room_together(alloc)?;
@@ -43,7 +43,7 @@ fn changes(rt: HostRuntime) -> Result<(), Fail> {
 }
 
 #[test]
-fn exchanges(rt: HostRuntime) -> Result<(), Fail> {
+fn worked_exchanges(rt: HostRuntime) -> Result<(), Fail> {
     let alloc = rt.alloc();
     exchanges::a_stack_over_http(alloc)
 }
@@ -58,7 +58,7 @@ fn reports_of_rows(rt: HostRuntime) -> Result<(), Fail> {
 }
 
 #[test]
-fn records(rt: HostRuntime) -> Result<(), Fail> {
+fn worked_records(rt: HostRuntime) -> Result<(), Fail> {
     let alloc = rt.alloc();
     records::records_come_in_the_order_of_their_lines(alloc)?;
     records::a_record_comes_with_its_line(alloc)
