@@ -105,20 +105,22 @@ fn are_of_calls(rows: &FileRows) -> bool {
         && calls.next().is_none()
 }
 
-/// Whether `CALLS` is read into its rows.
-fn calls_are_read(alloc: Global) -> bool {
-    let Ok(mut reader) = Reader::new(alloc) else {
-        return false;
-    };
+fn rows_of(alloc: Global, text: &'static [u8]) -> Result<FileRows, Fail> {
+    let mut reader = Reader::new(alloc)?;
     let mut rows = FileRows::new(alloc);
-    CALLS.len() as u64 <= reader.room()
-        && reader.feed(CALLS, &mut rows).is_ok()
-        && reader.finish(&mut rows).is_ok()
-        && are_of_calls(&rows)
+    if text.len() as u64 > reader.room() {
+        return Err(Fail::from(AllocError));
+    }
+    reader.feed(text, &mut rows)?;
+    if reader.finish(&mut rows).is_err() {
+        return Err(Fail::from(AllocError));
+    }
+    Ok(rows)
 }
 
 pub fn rows_of_a_file_have_their_names(alloc: Global) -> Result<(), Fail> {
-    holds(calls_are_read(alloc), "other rows")
+    let rows = rows_of(alloc, CALLS)?;
+    holds(are_of_calls(&rows), "other rows")
 }
 
 /// A file is imported, a source annotated, the run put into a group and removed.
