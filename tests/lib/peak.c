@@ -1,6 +1,6 @@
-/* Runs a program, and tells its peak memory: for tests/by_hand/sizes.
+/* Runs a program, and tells its peak memory and its time of the processor.
 
-   Usage: peak FILE PROGRAM WORD..   The kilobytes are written into FILE; the status is that of the program.
+   Usage: peak FILE PROGRAM WORD..   The kilobytes and milliseconds are written into FILE; the status is that of the program.
 
    What the system tells of a child is never less than what its parent had when it was made. A script in Python has
    more than the program, and this has less. The room for addresses has a bound, so that a program which takes all that
@@ -40,8 +40,9 @@ int main(int count, char **words)
     struct rusage used;
     if (wait4(child, &status, 0, &used) != child)
         return fault("wait4");
+    long milliseconds = (used.ru_utime.tv_sec + used.ru_stime.tv_sec) * 1000 + (used.ru_utime.tv_usec + used.ru_stime.tv_usec) / 1000;
     FILE *file = fopen(words[1], "w");
-    if (!file || fprintf(file, "%ld\n", used.ru_maxrss) < 0 || fclose(file) != 0)
+    if (!file || fprintf(file, "%ld %ld\n", used.ru_maxrss, milliseconds) < 0 || fclose(file) != 0)
         return fault(words[1]);
     return WIFEXITED(status) ? WEXITSTATUS(status) : 128 + WTERMSIG(status);
 }

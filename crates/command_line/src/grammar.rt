@@ -14,6 +14,10 @@ use std::alloc::{AllocError, Global};
 /// The version of the program.
 const VERSION: &str = "0.1.0";
 
+/// What help says of terminals.
+const ON_TERMINALS: &str =
+    "Where the standard error is a terminal, it says why a store or a file is refused.";
+
 /// What clap is told of how an argument stands on a command line.
 fn formed<'a>(alloc: Global, argument: Argument) -> Arg<'a>
     ensures rule { rule_of result ≡ table.formed argument.form argument.id.now }
@@ -97,6 +101,7 @@ fn program<'a>(alloc: Global) -> Command<'a>
     Command::new(alloc, "profhouse")
         .version(VERSION)
         .about("A warehouse of run profiles whose every figure is exact")
+        .after_help(ON_TERMINALS)
         .subcommand_required(true)
 }
 

@@ -15,7 +15,7 @@ use Rattle.http_exchange.specs.Requests.{request_of}
 use Rattle.http_exchange.specs.declared.failings.Failing.{Failing}
 use Rattle.http_exchange.specs.declared.failings.Failing.TheVariants.{BadRequest, NotFound, WrongMethod, LengthRequired, TooLong, NoMemory}
 use Rattle.http_exchange.specs.declared.places.Place.TheVariants as at
-use Rattle.http_exchange.specs.Asked.{Asked}
+use Rattle.http_exchange.specs.Asked.{PathCommand}
 use Rattle.profile_records.specs.declared.kinds.Kind.TheVariants as kinds
 use Rattle.requests.specs.declared.selections.Selection.TheVariants as selections
 use Rattle.requests.specs.declared.queries.Query.TheVariants as queries
@@ -81,7 +81,7 @@ abbrev field : List ℕ → List ℕ → Field
 field name raw = record { name = name; raw = raw; end = crlf }
 
 -- what a head without a body asks for
-abbrev Asks : List ℕ → List ℕ → Asked → Type 0
+abbrev Asks : List ℕ → List ℕ → PathCommand → Type 0
 Asks method target asked = request_of 100 (head method target []) ≡ Ok (record { asked = asked; length = 0 })
 
 abbrev Fails : List ℕ → List ℕ → Failing → Type 0

@@ -26,8 +26,8 @@ use Rattle.requests.specs.declared.commands.Command as commands
 use Rattle.requests.specs.declared.commands.Command.TheVariants as asks
 
 -- a command, but for the bytes of its body
-abbrev pub Asked : Type 0
-Asked = commands.Command (Unit {0}) (List ℕ)
+abbrev pub PathCommand : Type 0
+PathCommand = commands.Command (Unit {0}) (List ℕ)
 
 abbrev pub value_of : Name → Given → Option (List ℕ)
 value_of = parameters.value_of
@@ -86,37 +86,37 @@ abbrev pub object_in : Option (List ℕ) → List ℕ
 object_in (Some value) = percent_decode value
 object_in None = codes "???"
 
-abbrev pub import_by : Kind → Given → Result Asked Failing
+abbrev pub import_by : Kind → Given → Result PathCommand Failing
 import_by kind given = and_then (text_of (value_of is.Label given)) (λ label. Ok (asks.Import kind label tt))
 
-abbrev pub report_by : Key → Given → Result Asked Failing
+abbrev pub report_by : Key → Given → Result PathCommand Failing
 report_by key given =
     and_then (text_of (value_of is.Event given)) (λ event.
     and_then (selected_by given) (λ selection.
     and_then (cut_by given) (λ cut.
     Ok (asks.Ask (queries.By selection key event cut)))))
 
-abbrev pub inclusive_by : Given → Result Asked Failing
+abbrev pub inclusive_by : Given → Result PathCommand Failing
 inclusive_by given =
     and_then (text_of (value_of is.Event given)) (λ event.
     and_then (selected_by given) (λ selection.
     Ok (asks.Ask (queries.Inclusive selection event))))
 
-abbrev pub calls_by : CallSide → Given → Result Asked Failing
+abbrev pub calls_by : CallSide → Given → Result PathCommand Failing
 calls_by side given =
     and_then (text_of (value_of is.Event given)) (λ event.
     and_then (text_of (value_of is.Function given)) (λ function.
     and_then (selected_by given) (λ selection.
     Ok (asks.Ask (calls_query side selection event (object_in (value_of is.Object given)) function)))))
 
-abbrev pub annotate_by : Given → Result Asked Failing
+abbrev pub annotate_by : Given → Result PathCommand Failing
 annotate_by given =
     and_then (text_of (value_of is.Event given)) (λ event.
     and_then (text_of (value_of is.File given)) (λ file.
     and_then (selected_by given) (λ selection.
     Ok (asks.Annotate selection event file tt))))
 
-abbrev pub subtract_by : Key → Given → Result Asked Failing
+abbrev pub subtract_by : Key → Given → Result PathCommand Failing
 subtract_by key given =
     and_then (text_of (value_of is.Event given)) (λ event.
     and_then (selected_by given) (λ first.
@@ -143,19 +143,19 @@ is_put Get = false
 is_put Post = false
 is_put Delete = false
 
-abbrev pub of_group : Method → List ℕ → Asked
+abbrev pub of_group : Method → List ℕ → PathCommand
 of_group method path = if is_put method then asks.MakeGroup (group_in path) else asks.DropGroup (group_in path)
 
-abbrev pub of_member : Method → List ℕ → Asked
+abbrev pub of_member : Method → List ℕ → PathCommand
 of_member method path = if is_put method then asks.Join (group_in path) (run_in 4 path) else asks.Leave (group_in path) (run_in 4 path)
 
-abbrev pub baseline_of : List ℕ → Asked
+abbrev pub baseline_of : List ℕ → PathCommand
 baseline_of path = asks.SetBaseline (group_in path) (run_in 4 path)
 
 -- ---- all of it
 
 -- what is asked at a place by one of its methods
-abbrev pub asked_of : Place → Method → List ℕ → Given → Result Asked Failing
+abbrev pub asked_of : Place → Method → List ℕ → Given → Result PathCommand Failing
 asked_of at.CallgrindRuns method path given = import_by kinds.Callgrind given
 asked_of at.FoldedRuns method path given = import_by kinds.Folded given
 asked_of at.Runs method path given = Ok (asks.Ask queries.Runs)

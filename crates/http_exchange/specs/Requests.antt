@@ -6,7 +6,7 @@ use Rattle.http_exchange.specs.Texts.{front_of, rest_of}
 use Rattle.http_exchange.specs.Places.{methods_of, method_in}
 use Rattle.http_exchange.specs.Routes.{place_of}
 use Rattle.http_exchange.specs.Parameters.{Given, names_of, given_by}
-use Rattle.http_exchange.specs.Asked.{Asked, asked_of}
+use Rattle.http_exchange.specs.Asked.{PathCommand, asked_of}
 use Rattle.http_exchange.specs.Lengths.{body_length}
 use Rattle.http_exchange.specs.Failings.{and_then}
 use Rattle.http_exchange.specs.declared.failings.Failing.{Failing}
@@ -44,21 +44,21 @@ abbrev pub length_at : ℕ → Place → List (List ℕ × List ℕ) → Result 
 length_at limit place fields = length_in (body_limit limit place) fields
 
 -- the parameters, and what is asked
-abbrev pub after_parameters : List ℕ → Place → Method → Option Given → Result (Place × Asked) Failing
+abbrev pub after_parameters : List ℕ → Place → Method → Option Given → Result (Place × PathCommand) Failing
 after_parameters target place method None = Err BadRequest
 after_parameters target place method (Some given) = and_then (asked_of place method (front_of 63 target) given) (λ asked. Ok (place, asked))
 
 -- the method
-abbrev pub after_method : List ℕ → Place → Option Method → Result (Place × Asked) Failing
+abbrev pub after_method : List ℕ → Place → Option Method → Result (Place × PathCommand) Failing
 after_method target place None = Err (WrongMethod place)
 after_method target place (Some method) = after_parameters target place method (given_by (names_of place) (rest_of 63 target))
 
 -- the path, which ends at the first `?`
-abbrev pub after_path : List ℕ → List ℕ → Option Place → Result (Place × Asked) Failing
+abbrev pub after_path : List ℕ → List ℕ → Option Place → Result (Place × PathCommand) Failing
 after_path method target None = Err NotFound
 after_path method target (Some place) = after_method target place (method_in (methods_of place) method)
 
-abbrev pub asked_by : List ℕ → List ℕ → Result (Place × Asked) Failing
+abbrev pub asked_by : List ℕ → List ℕ → Result (Place × PathCommand) Failing
 asked_by method target = after_path method target (place_of (front_of 63 target))
 
 -- the length, last

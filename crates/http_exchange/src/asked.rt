@@ -20,7 +20,7 @@ use requests::{Command, Query, Selection};
 use std::alloc::{AllocError, Global};
 
 /// What a request asks for, but for its body.
-pub type Asked = Command<(), ListVec<u8>>;
+pub type PathCommand = Command<(), ListVec<u8>>;
 
 /// Which runs a request is about.
 type Selected = Selection<ListVec<u8>>;
@@ -128,7 +128,7 @@ fn threshold(alloc: Global, value: Option<&[u8]>) -> Result<u8, Failing>
 }
 
 /// The import of a file, which is the body.
-fn import(alloc: Global, kind: Kind, given: &Given<'_>) -> Result<Asked, Failing>
+fn import(alloc: Global, kind: Kind, given: &Given<'_>) -> Result<PathCommand, Failing>
     ensures { IsMet (spec.import_by kind given.now) result }
 {
     let label = text(alloc, given, Name::Label)?;
@@ -140,7 +140,7 @@ fn import(alloc: Global, kind: Kind, given: &Given<'_>) -> Result<Asked, Failing
 }
 
 /// A report by a key.
-fn by(alloc: Global, key: Key, given: &Given<'_>) -> Result<Asked, Failing>
+fn by(alloc: Global, key: Key, given: &Given<'_>) -> Result<PathCommand, Failing>
     ensures { IsMet (spec.report_by key given.now) result }
 {
     let event = text(alloc, given, Name::Event)?;
@@ -155,7 +155,7 @@ fn by(alloc: Global, key: Key, given: &Given<'_>) -> Result<Asked, Failing>
 }
 
 /// A report of inclusive costs.
-fn inclusive(alloc: Global, given: &Given<'_>) -> Result<Asked, Failing>
+fn inclusive(alloc: Global, given: &Given<'_>) -> Result<PathCommand, Failing>
     ensures { IsMet (spec.inclusive_by given.now) result }
 {
     let event = text(alloc, given, Name::Event)?;
@@ -177,7 +177,7 @@ fn object(alloc: Global, value: Option<&[u8]>) -> Result<ListVec<u8>, Failing>
 }
 
 /// A report of the calls that have one side at a function.
-fn calls(alloc: Global, side: CallSide, given: &Given<'_>) -> Result<Asked, Failing>
+fn calls(alloc: Global, side: CallSide, given: &Given<'_>) -> Result<PathCommand, Failing>
     ensures { IsMet (spec.calls_by side given.now) result }
 {
     let event = text(alloc, given, Name::Event)?;
@@ -202,7 +202,7 @@ fn calls(alloc: Global, side: CallSide, given: &Given<'_>) -> Result<Asked, Fail
 }
 
 /// The listing of a source, which is the body.
-fn annotate(alloc: Global, given: &Given<'_>) -> Result<Asked, Failing>
+fn annotate(alloc: Global, given: &Given<'_>) -> Result<PathCommand, Failing>
     ensures { IsMet (spec.annotate_by given.now) result }
 {
     let event = text(alloc, given, Name::Event)?;
@@ -217,7 +217,7 @@ fn annotate(alloc: Global, given: &Given<'_>) -> Result<Asked, Failing>
 }
 
 /// A report of differences by a key.
-fn subtract(alloc: Global, key: Key, given: &Given<'_>) -> Result<Asked, Failing>
+fn subtract(alloc: Global, key: Key, given: &Given<'_>) -> Result<PathCommand, Failing>
     ensures { IsMet (spec.subtract_by key given.now) result }
 {
     let event = text(alloc, given, Name::Event)?;
@@ -246,7 +246,7 @@ fn is_put(method: Method) -> bool
 }
 
 /// What is asked of a group.
-fn of_group(alloc: Global, method: Method, path: &[u8]) -> Result<Asked, Failing>
+fn of_group(alloc: Global, method: Method, path: &[u8]) -> Result<PathCommand, Failing>
     ensures { IsMet (Ok (spec.of_group method path.now)) result }
 {
     let group = decoded(alloc, part(path, 2))?;
@@ -258,7 +258,7 @@ fn of_group(alloc: Global, method: Method, path: &[u8]) -> Result<Asked, Failing
 }
 
 /// What is asked of a run and a group.
-fn of_member(alloc: Global, method: Method, path: &[u8]) -> Result<Asked, Failing>
+fn of_member(alloc: Global, method: Method, path: &[u8]) -> Result<PathCommand, Failing>
     ensures { IsMet (Ok (spec.of_member method path.now)) result }
 {
     let group = decoded(alloc, part(path, 2))?;
@@ -271,7 +271,7 @@ fn of_member(alloc: Global, method: Method, path: &[u8]) -> Result<Asked, Failin
 }
 
 /// The run that is to be the baseline of a group.
-fn baseline(alloc: Global, path: &[u8]) -> Result<Asked, Failing>
+fn baseline(alloc: Global, path: &[u8]) -> Result<PathCommand, Failing>
     ensures { IsMet (Ok (spec.baseline_of path.now)) result }
 {
     let group = decoded(alloc, part(path, 2))?;
@@ -285,7 +285,7 @@ pub(crate) fn asked_at(
     method: Method,
     path: &[u8],
     given: &Given<'_>,
-) -> Result<Asked, Failing>
+) -> Result<PathCommand, Failing>
     ensures { IsMet (spec.asked_of place method path.now given.now) result }
 {
     match place {

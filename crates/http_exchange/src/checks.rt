@@ -7,7 +7,7 @@ ghost use Rattle.http_exchange.specs.Heads.{IsHeadAt};
 ghost use Rattle.http_exchange.specs.Requests as spec;
 ghost use Rattle.http_exchange.specs.Routes.{routes};
 
-use crate::asked::{Asked, asked_at};
+use crate::asked::{PathCommand, asked_at};
 use crate::failings::Failing;
 use crate::lengths::body_length;
 use crate::names::names;
@@ -26,7 +26,7 @@ pub const SOURCE_LIMIT: u64 = 16_777_216;
 /// is read.
 #[derive(Drop)]
 pub struct Request {
-    pub asked: Asked,
+    pub asked: PathCommand,
     pub length: u64,
 }
 
@@ -60,7 +60,7 @@ fn asked_by(
     router: &Router<Place>,
     method: &[u8],
     target: &str,
-) -> Result<(Place, Asked), Failing>
+) -> Result<(Place, PathCommand), Failing>
     requires { router.now ≡ routes }
     ensures { IsMet (spec.asked_by method.now target.now) result }
 {

@@ -36,7 +36,7 @@ mod streams;
 // Texts cut at a byte (specs/Texts.antt).
 mod texts;
 
-pub use asked::Asked;
+pub use asked::PathCommand;
 pub use bodies::{Body, body_comes};
 pub use checks::{Request, SOURCE_LIMIT, read_request};
 pub use failings::Failing;

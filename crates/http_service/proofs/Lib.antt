@@ -2,6 +2,5 @@ mod Examples
 pub mod Heads
 pub mod SendingLemmas
 pub mod Served
-pub mod ServedStores
 pub mod StepsTo
 pub mod Unread

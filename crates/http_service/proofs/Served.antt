@@ -8,12 +8,13 @@ use Rattle.byte_io.specs.Reads.{Reads}
 use Rattle.histories.specs.declared.answers.Answer.{Answer}
 use Rattle.histories.specs.declared.limits.Limits.{Limits}
 use Rattle.store_histories.specs.Answered.{Links}
-use Rattle.store_histories.proofs.Links.{links_append, links_clean, links_legal, links_after}
+use Rattle.store_histories.proofs.Links.{links_append, links_clean}
 use Rattle.http_exchange.specs.declared.failings.Failing.{Failing}
 use Rattle.http_exchange.specs.declared.checks.Request.{Request}
 use Rattle.http_exchange.specs.Streams.{Written, Writes}
 use Rattle.http_service.specs.Exchanges.{IsReplied, WasExchanged}
 use Rattle.http_service.specs.declared.replies.Exchange.{Exchange}
+use Rattle.warehouse.proofs.Taken.{taken_by, taken_clean}
 use Rattle.http_service.specs.Served.{HasServed, WasExchangedWithAny, WereExchanged, steps_of, steps_of_exchange, steps_of_reply}
 
 -- ---- any bytes
@@ -102,12 +103,9 @@ module _ {S : Type 0} (g : Ghosts S) (limits : Limits) where
   served_by requests exchanges old new few were clean =
       let links = were_links exchanges old new were clean in
       record {
-        exchanges = exchanges;
-        few = few;
-        were = were;
-        links = links;
-        legal = λ h has. links_legal g limits h (steps_of g limits exchanges old new were) old new links has;
-        after = λ h has. links_after g limits h (steps_of g limits exchanges old new were) old new links has;
+        steps = steps_of g limits exchanges old new were;
+        of_requests = record { exchanges = exchanges; few = few; were = were; are = refl };
+        taken = taken_by g limits (steps_of g limits exchanges old new were) old new links;
       }
 
   pub served_none : (requests : ℕ) (store : S) → IsFaithful g store → HasServed g limits requests store store
@@ -118,11 +116,13 @@ module _ {S : Type 0} (g : Ghosts S) (limits : Limits) where
 
   pub served_on : (before more : ℕ) (old mid new : S) → HasServed g limits before old mid → HasServed g limits more mid new → IsFaithful g new → HasServed g limits (before + more) old new
   served_on before more old mid new one two clean =
-      let few_before = one.few in
-      let few_more = two.few in
-      let all = length-append one.exchanges two.exchanges in
-      served_by (before + more) (one.exchanges ++ two.exchanges) old new (omega (arith, few_before, few_more, all)) (were_append one.exchanges two.exchanges old mid new one.were two.were) clean
+      let first = one.of_requests in
+      let last = two.of_requests in
+      let few_before = first.few in
+      let few_more = last.few in
+      let all = length-append first.exchanges last.exchanges in
+      served_by (before + more) (first.exchanges ++ last.exchanges) old new (omega (arith, few_before, few_more, all)) (were_append first.exchanges last.exchanges old mid new first.were last.were) clean
 
   -- the disk was faithful before, too
   pub served_clean : (requests : ℕ) (old new : S) → HasServed g limits requests old new → IsFaithful g new → IsFaithful g old
-  served_clean requests old new served clean = links_clean g limits (steps_of g limits served.exchanges old new served.were) old new served.links clean
+  served_clean requests old new served clean = taken_clean g limits served.steps old new served.taken clean

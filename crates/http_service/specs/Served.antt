@@ -5,16 +5,14 @@ use Rattle.run_stores.specs.declared.states.StoreState.{Ghosts}
 use Rattle.run_stores.specs.Calls.{IsFaithful}
 use Rattle.byte_io.specs.Outcomes.{Outcome}
 use Rattle.histories.specs.History.{History}
-use Rattle.histories.specs.Legal.{AreLegal}
 use Rattle.histories.specs.declared.answers.Answer.{Answer}
 use Rattle.histories.specs.declared.limits.Limits.{Limits}
-use Rattle.histories.specs.Standard.{IsStandard}
-use Rattle.store_histories.specs.Answered.{HasHistory, Links}
 use Rattle.http_exchange.specs.declared.failings.Failing.{Failing}
 use Rattle.http_exchange.specs.declared.checks.Request.{Request}
 use Rattle.http_service.specs.Exchanges.{IsReplied, WasExchanged}
 use Rattle.histories.specs.Requests.{command_read}
 use Rattle.http_service.specs.declared.replies.Exchange.{Exchange}
+use Rattle.warehouse.specs.Taken.{WereTaken}
 
 module _ {S : Type 0} (g : Ghosts S) (limits : Limits) where
   -- a request was read and responded to; of a socket nothing is known, so any bytes may have come and gone
@@ -43,21 +41,19 @@ module _ {S : Type 0} (g : Ghosts S) (limits : Limits) where
   steps_of [] old new same = []
   steps_of (exchange ∷ later) old new were = steps_of_exchange exchange old were.0 were.1 ++ steps_of later were.0 new were.2
 
--- so many clients were served, but for those that went away: the commands are those of their requests, in order; after a history that the store has, each answer is legal, and the store has the history with all of them
-pub record HasServed {S : Type 0} (g : Ghosts S) (limits : Limits) (requests : ℕ) (old new : S) : Type 0 where
+-- the commands of these steps are those of so many clients' requests, in order, but for the clients that went away
+pub record AreOfRequests {S : Type 0} (g : Ghosts S) (requests : ℕ) (old new : S) (limits : Limits) (steps : History) : Type 0 where
   pub exchanges : List Exchange
   pub few : length exchanges ≤ requests
   pub were : WereExchanged g limits exchanges old new
-  pub links : Links g limits (steps_of g limits exchanges old new were) old new
-  pub legal : (h : History) → HasHistory g h old → AreLegal limits h (steps_of g limits exchanges old new were)
-  pub after : (h : History) → HasHistory g h old → HasHistory g (h ++ steps_of g limits exchanges old new were) new
+  pub are : steps ≡ steps_of g limits exchanges old new were
+
+-- such steps were taken
+pub record HasServed {S : Type 0} (g : Ghosts S) (limits : Limits) (requests : ℕ) (old new : S) : Type 0 where
+  pub steps : History
+  pub of_requests : AreOfRequests g requests old new limits steps
+  pub taken : WereTaken g limits steps old new
 
 -- the same, where the disk has returned what was written
 abbrev pub Serves : {S : Type 0} → Ghosts S → ℕ → Limits → S → S → Type 0
 Serves g requests limits old new = IsFaithful g new → HasServed g limits requests old new
-
--- under the standard limits so many requests were served
-pub record CameToServed {S : Type 0} (g : Ghosts S) (requests : ℕ) (old new : S) : Type 0 where
-  pub limits : Limits
-  pub standard : IsStandard limits
-  pub served : HasServed g limits requests old new

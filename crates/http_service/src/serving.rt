@@ -2,7 +2,8 @@
 ghost use Rattle.std.specs.Prelude.{◌≡◌};
 ghost use Rattle.run_stores.specs.Calls.{IsFaithful};
 ghost use Rattle.http_exchange.specs.Routes as spec;
-ghost use Rattle.http_service.specs.Served.{CameToServed, Serves};
+ghost use Rattle.http_service.specs.Served.{AreOfRequests, Serves};
+ghost use Rattle.warehouse.specs.Taken.{CameTo};
 
 use crate::logging::log;
 use crate::{Exchange, Room, answer};
@@ -12,7 +13,7 @@ use http_exchange::{Place, routes};
 use matchit::Router;
 use run_stores::RunStore;
 use std::io;
-use std::io::ErrorKind;
+use std::io::{ErrorKind, IsTerminal};
 use std::net::{Ipv4Addr, SocketAddr, TcpListener};
 use std::rt::HostRuntime;
 use warehouse::Warehouse;
@@ -106,6 +107,19 @@ fn clients_at<'a>(rt: &'a HostRuntime, port: u16) -> io::Result<(Clients<'a>, So
     Ok((Clients::new(rt, listener)?, address))
 }
 
+/// Tells a person, on a terminal, why a port is not listened to, where that is known. What cannot be told is not. No guarantee:
+/// of what is printed the checker knows nothing.
+fn tell_port(rt: &HostRuntime, port: u16, kind: ErrorKind) {
+    let found = match kind {
+        ErrorKind::AddrInUse => "another program listens at it",
+        ErrorKind::PermissionDenied => "no right to listen at it",
+        _ => return,
+    };
+    if rt.stderr().is_terminal() {
+        let _told = eprintln!(rt; "port {port}: {found}");
+    }
+}
+
 /// Listens at a port of 127.0.0.1, and prints which; or prints that there is no memory, or that the port is taken, which
 /// is a failed read. No guarantee: as `listener_at`.
 fn listen<'a>(rt: &'a HostRuntime, port: u16) -> io::Result<Option<Clients<'a>>> {
@@ -118,8 +132,9 @@ fn listen<'a>(rt: &'a HostRuntime, port: u16) -> io::Result<Option<Clients<'a>>>
             println!(rt; "refused: out of memory")?;
             Ok(None)
         }
-        Err(_) => {
+        Err(error) => {
             println!(rt; "refused: read failed")?;
+            tell_port(rt, port, error.kind());
             Ok(None)
         }
     }
@@ -175,7 +190,7 @@ pub fn serve<S: RunStore>(
 /// Serves an opened store, under the standard limits. It hands back the status, where all that the server
 /// itself says was printed, and the store.
 pub fn serve_over<S: RunStore>(rt: &HostRuntime, store: S, service: Service) -> (io::Result<u8>, S)
-    ensures { IsFaithful S.StoreState result.1 → CameToServed S.StoreState service.requests store result.1 }
+    ensures { IsFaithful S.StoreState result.1 → CameTo S.StoreState (AreOfRequests S.StoreState service.requests store result.1) store result.1 }
 {
     let mut warehouse = Warehouse::new(store, Limits::standard()).with_most(service.most);
     let served = serve(rt, &mut warehouse, service);

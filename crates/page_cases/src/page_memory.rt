@@ -1,8 +1,7 @@
 // A store in pages of which one allocation is refused, by tests/by_hand/refuse_each: the call that meets it says so and changes
 // nothing, and the next call goes on.
 use crate::changes::{CHANGES, Change, change_pages};
-use crate::stores::{made_in, pages_in};
-use crate::told::told_by;
+use crate::stores::{made_in, pages_in, told_of_pages};
 use page_runs::PageRuns;
 use run_stores::StoreError;
 use sqlite_disk::{Disk, Files};
@@ -29,8 +28,8 @@ fn empty_pages(alloc: Global) -> Result<PageRuns<Stopping>, &'static str> {
 
 /// What a store tells, asked again where memory is refused.
 fn told_again<D: Disk>(store: &mut PageRuns<D>, alloc: Global) -> Result<Vec<u8>, StoreError> {
-    match told_by(store, alloc) {
-        Err(StoreError::Memory) => told_by(store, alloc),
+    match told_of_pages(store, alloc) {
+        Err(StoreError::Memory) => told_of_pages(store, alloc),
         told => told,
     }
 }
@@ -43,7 +42,7 @@ fn change_again<D: Disk>(
 ) -> Result<(Vec<u8>, Vec<u8>), Fail> {
     let before = told_again(store, alloc)?;
     if let Err(error) = change_pages(store, alloc, change) {
-        let left = told_by(store, alloc)?;
+        let left = told_of_pages(store, alloc)?;
         if error != StoreError::Memory || left.as_slice() != before.as_slice() {
             return Err("another refusal, or it changed the store")?;
         }

@@ -2,8 +2,9 @@
 use crate::told::told_by;
 use page_runs::PageRuns;
 use prof_store::Store;
+use run_stores::StoreError;
 use sql_runs::SqlRuns;
-use sqlite::{Connection, FileStore};
+use sqlite::{Alter, Connection, FileStore};
 use sqlite_disk::{Disk, Files};
 use sqlite_pager::Options;
 use std::alloc::Global;
@@ -30,17 +31,27 @@ fn database_in<D: Disk + Drop>(
     }
 }
 
+// What is done to a database is written over any pages, and what a store tells is called in one place for each kind of it: a
+// function that is called at the type of a store takes half a minute to prove at each call.
+
+/// Makes a store in an empty database.
+fn made<S: Alter + Drop>(
+    alloc: Global,
+    conn: Connection<S>,
+) -> Result<Connection<S>, &'static str> {
+    match Store::create(alloc, conn) {
+        Ok(store) => Ok(store.into_connection()),
+        Err(_) => Err("no store is made"),
+    }
+}
+
 /// Makes a store in empty files, by SQL, and hands the files back.
 pub(crate) fn made_in<D: Disk + Drop>(
     alloc: Global,
     files: Files<D>,
 ) -> Result<Files<D>, &'static str> {
-    let conn = database_in(alloc, files)?;
-    let store = match Store::create(alloc, conn) {
-        Ok(store) => store,
-        Err(_) => return Err("no store is made"),
-    };
-    match store.into_connection().close_files() {
+    let conn = made(alloc, database_in(alloc, files)?)?;
+    match conn.close_files() {
         Ok(files) => Ok(files),
         Err((_, store)) => {
             drop(store.close());
@@ -63,24 +74,31 @@ pub(crate) fn pages_in<D: Disk + Drop>(
     }
 }
 
+/// All that a store in pages tells.
+pub(crate) fn told_of_pages<D: Disk>(
+    store: &mut PageRuns<D>,
+    alloc: Global,
+) -> Result<Vec<u8>, StoreError> {
+    told_by(store, alloc)
+}
+
 /// What files tell by their pages.
 pub(crate) fn told_by_pages<D: Disk + Drop>(
     alloc: Global,
     files: Files<D>,
 ) -> Result<Vec<u8>, &'static str> {
     let mut store = pages_in(alloc, files)?;
-    match told_by(&mut store, alloc) {
+    match told_of_pages(&mut store, alloc) {
         Ok(told) => Ok(told),
         Err(_) => Err("by its pages the store is not read"),
     }
 }
 
-/// What files tell by SQL.
-pub(crate) fn told_by_sql<D: Disk + Drop>(
+/// What the store in a database tells.
+fn told_by_database<S: Alter + Drop>(
     alloc: Global,
-    files: Files<D>,
+    conn: Connection<S>,
 ) -> Result<Vec<u8>, &'static str> {
-    let conn = database_in(alloc, files)?;
     let mut store = match Store::open(alloc, conn) {
         Ok(store) => SqlRuns { store },
         Err(_) => return Err("no store by SQL"),
@@ -89,4 +107,12 @@ pub(crate) fn told_by_sql<D: Disk + Drop>(
         Ok(told) => Ok(told),
         Err(_) => Err("by SQL the store is not read"),
     }
+}
+
+/// What files tell by SQL.
+pub(crate) fn told_by_sql<D: Disk + Drop>(
+    alloc: Global,
+    files: Files<D>,
+) -> Result<Vec<u8>, &'static str> {
+    told_by_database(alloc, database_in(alloc, files)?)
 }

@@ -52,11 +52,19 @@ fn are_alike(one: &Table, other: &Table) -> bool {
         && one.orders.as_slice() == other.orders.as_slice()
 }
 
+/// Whether a text makes a table that is like another. (Two tables that are held at once have many ways to be let go.)
+fn makes_alike(alloc: Global, table: &Table, text: &[u8]) -> Result<bool, AllocError> {
+    match table_of(alloc, text)? {
+        Some(other) => Ok(are_alike(table, &other)),
+        None => Ok(false),
+    }
+}
+
 /// Whether two texts make tables whose rows, and those of the indexes that they have by their keys, are the same. Types,
 /// rules and references may differ: what a row says is tested where it is read. No clause says so.
 pub(crate) fn have_same_rows(alloc: Global, one: &[u8], other: &[u8]) -> Result<bool, AllocError> {
-    match (table_of(alloc, one)?, table_of(alloc, other)?) {
-        (Some(one), Some(other)) => Ok(are_alike(&one, &other)),
-        _ => Ok(false),
+    match table_of(alloc, one)? {
+        Some(one) => makes_alike(alloc, &one, other),
+        None => Ok(false),
     }
 }

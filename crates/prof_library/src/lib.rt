@@ -33,7 +33,8 @@ pub use held_runs::{CallSink, CellSink, StackRowSink, each_call, each_cell, each
 pub use prof_store::{GroupEntry, Kind, OpenError, RunEntry, Store, StoreError};
 pub use run_writing::{SummedFile, put_run};
 
-// All commands over a store.
+// All commands over a store of any kind, and the one in SQLite as such.
+pub use run_stores::RunStore;
 pub use sql_runs::SqlRuns;
 pub use warehouse::{
     Answer, Command, Excess, Limits, Query, ReadFault, Refusal, Selection, Source, Warehouse,

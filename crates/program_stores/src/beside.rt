@@ -2,6 +2,7 @@
 ghost use Rattle.read_only_disks.specs.Untouched.{IsUntouched};
 
 use crate::reading::{LONGEST_LOG, PAGES_TO_READ, Unread, close, store_in_pages};
+use crate::running::tell_remarks;
 use files_to_read::{FileOf, IfStands, Standing, Unopened, open_to_look, open_to_read};
 use page_runs::PageRuns;
 use prof_store::OpenError;
@@ -157,9 +158,11 @@ fn work_over_pages<'a, D: Disk + Drop>(
     commands: &[WordsCommand<'a>],
 ) -> Beside {
     let out = IfStands::new(io::writer(rt), rt, standing);
-    let (came_to, mut out, store) = work_over(rt, out, store, commands);
+    let mut remarks = Vec::new(rt.alloc());
+    let (came_to, mut out, store) = work_over(rt, out, store, commands, &mut remarks);
     close(store);
     if out.has_stood() {
+        tell_remarks(rt, &remarks);
         Beside::Done(came_to)
     } else {
         Beside::Moved

@@ -3,18 +3,21 @@ ghost use Rattle.std.specs.Prelude.{◌≡◌, ◌≤◌};
 ghost use Rattle.std.specs.List.{list_all};
 ghost use Rattle.program_stores.specs.Jobs as specs;
 ghost use Rattle.requests.specs.Plain.{only_reads};
+ghost use Rattle.sessions.specs.Commands.{HasCommands};
 
 use crate::beside::{Beside, look_beside, work_beside};
 use crate::reading::{StoreInPages, pages_at, pages_to_change_at};
 use anyhow::Result;
 use command_line::{Plan, PlanEnd, plan};
-use file_reading::total_file;
+use file_reading::{TotalText, total_read};
 use http_service::{Service, serve_over};
 use prof_store::OpenError;
+use profile_records::Kind;
 use run_stores::RunStore;
-use sessions::{WordsCommand, commands_of, print_total, work_over};
+use seen_files::{Beginning, Finding, SeenFile, fault_finding, finding_line, unread_finding};
+use sessions::{Remark, WordsCommand, commands_of, print_total, work_over};
 use std::alloc::AllocError;
-use std::io::IsTerminal;
+use std::io::{ErrorKind, IsTerminal};
 use std::process::ExitCode;
 use std::rt::HostRuntime;
 use std::{env, io};
@@ -26,11 +29,18 @@ fn print_refused<R: Print>(rt: &R, reason: &str) -> io::Result<ExitCode> {
     Ok(ExitCode::FAILURE)
 }
 
-/// Tells a person what was found of a store, on a terminal: a script, which has the standard error in a file or a pipe, sees
+/// Tells a person what was found of a store or a file, on a terminal: a script, which has the standard error in a file or a pipe, sees
 /// nothing of it. What cannot be told is not. No guarantee: of what is printed the checker knows nothing.
-fn tell_person(rt: &HostRuntime, db: &str, found: &str) {
+fn tell_person(rt: &HostRuntime, path: &str, found: &str) {
     if rt.stderr().is_terminal() {
-        let _told = eprintln!(rt; "{db}: {found}");
+        let _told = eprintln!(rt; "{path}: {found}");
+    }
+}
+
+/// Tells a person what was found of files. No guarantee: as `tell_person`.
+pub(crate) fn tell_remarks(rt: &HostRuntime, remarks: &[Remark<'_>]) {
+    for remark in remarks {
+        tell_person(rt, remark.path, finding_line(remark.finding));
     }
 }
 
@@ -54,7 +64,10 @@ impl<'a> Job<'_, 'a> {
     fn over<S: RunStore>(self, rt: &'a HostRuntime, store: S) -> (io::Result<u8>, S) {
         match self {
             Job::Run(commands) => {
-                let (came_to, _out, store) = work_over(rt, io::writer(rt), store, commands);
+                let mut remarks = Vec::new(rt.alloc());
+                let out = io::writer(rt);
+                let (came_to, _out, store) = work_over(rt, out, store, commands, &mut remarks);
+                tell_remarks(rt, &remarks);
                 (came_to, store)
             }
             Job::Serve(service) => serve_over(rt, store, service),
@@ -181,14 +194,51 @@ fn status_of(
     }
 }
 
+/// The total of the file at a path, and what was found of one that has none. No guarantee: which file is at a path the checker
+/// does not know; `total_read` says what is made of its bytes.
+fn total_at(rt: &HostRuntime, path: &str) -> (Result<TotalText, AllocError>, Option<Finding>) {
+    let mut file = SeenFile::new(rt, path);
+    let total = total_read(rt.alloc(), &mut file);
+    let is_accepted = matches!(&total, Ok(text) if text.accepted);
+    match (file.failed(), file.beginning()) {
+        (Some(ErrorKind::OutOfMemory), _) => (Err(AllocError), None),
+        (Some(kind), _) => (total, Some(unread_finding(kind))),
+        (None, Some(Beginning::Empty)) => (total, Some(Finding::Empty)),
+        (None, Some(beginning)) if !is_accepted => {
+            (total, fault_finding(Kind::Callgrind, beginning))
+        }
+        _ => (total, None),
+    }
+}
+
+/// Prints the total of the file at a path. No guarantee: as `total_at`.
+fn run_total(rt: &HostRuntime, path: &str) -> io::Result<ExitCode> {
+    let (total, finding) = total_at(rt, path);
+    let status = print_total(&mut io::writer(rt), total)?;
+    if let Some(finding) = finding {
+        tell_person(rt, path, finding_line(finding));
+    }
+    Ok(ExitCode::from(status))
+}
+
+/// Runs the commands of a plan that has such. No guarantee: as `run_plan`.
+fn run_commands<'a>(rt: &'a HostRuntime, plan: Plan<'a>) -> io::Result<ExitCode>
+    requires { HasCommands plan }
+{
+    match commands_of(rt.alloc(), plan) {
+        Ok((db, commands)) => {
+            let job = Job::Run(commands.as_slice());
+            status_of(rt, db, work_at(rt, db, job))
+        }
+        Err(AllocError) => print_refused(rt, "out of memory"),
+    }
+}
+
 /// Does what a plan says, and prints what it came to. No guarantee: which files stand at the paths of a plan
-/// the checker does not know; `commands_of`, `total_file` and `work_over` say what is made of them.
+/// the checker does not know; `commands_of`, `total_read` and `work_over` say what is made of them.
 fn run_plan<'a>(rt: &'a HostRuntime, plan: Plan<'a>) -> io::Result<ExitCode> {
     match plan {
-        Plan::Total { path } => {
-            let status = print_total(&mut io::writer(rt), total_file(rt, path))?;
-            Ok(ExitCode::from(status))
-        }
+        Plan::Total { path } => run_total(rt, path),
         Plan::Serve {
             db,
             port,
@@ -204,12 +254,7 @@ fn run_plan<'a>(rt: &'a HostRuntime, plan: Plan<'a>) -> io::Result<ExitCode> {
             };
             status_of(rt, db, work_at(rt, db, Job::Serve(service)))
         }
-        plan => match commands_of(rt.alloc(), plan) {
-            Ok((db, commands)) => {
-                status_of(rt, db, work_at(rt, db, Job::Run(commands.as_slice())))
-            }
-            Err(AllocError) => print_refused(rt, "out of memory"),
-        },
+        commands => run_commands(rt, commands),
     }
 }
 

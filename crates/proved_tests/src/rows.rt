@@ -1,16 +1,11 @@
-// The worked rows, over the library: a test for each module of `row_cases`, since each costs a start of the prover.
+// The worked rows, over the library, and reports of rows that are handed in: few tests, since each costs a start of the prover.
 use row_cases::{changes, exchanges, plain_rows, records, reports, totals};
 use std::test::Fail;
 
 #[test]
-fn worked_totals(rt: HostRuntime) -> Result<(), Fail> {
+fn worked_rows(rt: HostRuntime) -> Result<(), Fail> {
     let alloc = rt.alloc();
-    totals::totals_of_files(alloc)
-}
-
-#[test]
-fn worked_reports(rt: HostRuntime) -> Result<(), Fail> {
-    let alloc = rt.alloc();
+    totals::totals_of_files(alloc)?;
     reports::calls_of_the_manual(alloc)?;
     reports::two_writings_of_one_profile(alloc)?;
     reports::positions_of_two_columns(alloc)?;
@@ -25,12 +20,7 @@ fn worked_reports(rt: HostRuntime) -> Result<(), Fail> {
     reports::differences(alloc)?;
     reports::an_annotated_source(alloc)?;
     reports::stated_totals(alloc)?;
-    reports::jumps_between_files(alloc)
-}
-
-#[test]
-fn worked_changes(rt: HostRuntime) -> Result<(), Fail> {
-    let alloc = rt.alloc();
+    reports::jumps_between_files(alloc)?;
     changes::a_file_is_held_once(alloc)?;
     changes::self_costs_have_room_together(alloc)?;
     changes::costs_and_counts_of_calls_have_room_together(alloc)?;
@@ -39,13 +29,10 @@ fn worked_changes(rt: HostRuntime) -> Result<(), Fail> {
     changes::small_limits(alloc)?;
     changes::a_run_that_is_not_held(alloc)?;
     changes::one_group_and_no_more(alloc)?;
-    changes::a_file_without_an_end(alloc)
-}
-
-#[test]
-fn worked_exchanges(rt: HostRuntime) -> Result<(), Fail> {
-    let alloc = rt.alloc();
-    exchanges::a_stack_over_http(alloc)
+    changes::a_file_without_an_end(alloc)?;
+    exchanges::a_stack_over_http(alloc)?;
+    records::records_come_in_the_order_of_their_lines(alloc)?;
+    records::a_record_comes_with_its_line(alloc)
 }
 
 #[test]
@@ -55,11 +42,4 @@ fn reports_of_rows(rt: HostRuntime) -> Result<(), Fail> {
     plain_rows::a_difference_of_rows(alloc)?;
     plain_rows::callers_and_callees_of_rows(alloc)?;
     plain_rows::inclusive_costs_of_rows(alloc)
-}
-
-#[test]
-fn worked_records(rt: HostRuntime) -> Result<(), Fail> {
-    let alloc = rt.alloc();
-    records::records_come_in_the_order_of_their_lines(alloc)?;
-    records::a_record_comes_with_its_line(alloc)
 }

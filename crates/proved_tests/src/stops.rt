@@ -3,16 +3,9 @@ use std::test::Fail;
 use test_cases::stops;
 
 #[test]
-fn the_log_stops(rt: HostRuntime) -> Result<(), Fail> {
-    stops::the_log_stops(rt.alloc())
-}
-
-#[test]
-fn the_database_file_stops(rt: HostRuntime) -> Result<(), Fail> {
-    stops::the_database_file_stops(rt.alloc())
-}
-
-#[test]
-fn both_files_stop(rt: HostRuntime) -> Result<(), Fail> {
-    stops::both_files_stop(rt.alloc())
+fn a_machine_stops(rt: HostRuntime) -> Result<(), Fail> {
+    let alloc = rt.alloc();
+    stops::the_log_stops(alloc)?;
+    stops::the_database_file_stops(alloc)?;
+    stops::both_files_stop(alloc)
 }

@@ -3,21 +3,14 @@ use std::test::Fail;
 use test_cases::walks;
 
 #[test]
-fn cells_are_walked(rt: HostRuntime) -> Result<(), Fail> {
-    walks::cells_are_walked(rt.alloc())
-}
-
-#[test]
-fn calls_are_walked(rt: HostRuntime) -> Result<(), Fail> {
-    walks::calls_are_walked(rt.alloc())
+fn rows_are_walked(rt: HostRuntime) -> Result<(), Fail> {
+    let alloc = rt.alloc();
+    walks::cells_are_walked(alloc)?;
+    walks::calls_are_walked(alloc)?;
+    walks::what_is_not_held_is_not_told(alloc)
 }
 
 #[test]
 fn memory_refused_to_walk(rt: HostRuntime) -> Result<(), Fail> {
     walks::memory_refused_to_walk(rt.alloc())
-}
-
-#[test]
-fn what_is_not_held_is_not_told(rt: HostRuntime) -> Result<(), Fail> {
-    walks::what_is_not_held_is_not_told(rt.alloc())
 }

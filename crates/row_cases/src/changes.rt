@@ -3,9 +3,8 @@ use crate::bytes::Endless;
 use crate::files::{ADDRESSES, CALLS, GREATEST, ONE, TOTALS};
 use crate::steps::{ask, empty, import, import_folded, print, print_within};
 use prof_library::{
-    Answer, Command, Key, Kind, Limits, Query, Refusal, Selection, Warehouse, status_of,
+    Answer, Command, Key, Kind, Limits, Query, Refusal, RunStore, Selection, Warehouse, status_of,
 };
-use run_stores::RunStore;
 use std::alloc::Global;
 use std::test::Fail;
 

@@ -2,8 +2,9 @@
 ghost use Rattle.std.specs.Prelude.{◌≤◌, length};
 
 use crate::steps::empty;
-use prof_library::{Exchange, Limits, Room, Stream, StreamFault, Warehouse, answer, routes};
-use run_stores::RunStore;
+use prof_library::{
+    Exchange, Limits, Room, RunStore, Stream, StreamFault, Warehouse, answer, routes,
+};
 use std::alloc::{AllocError, Global};
 use std::test::Fail;
 

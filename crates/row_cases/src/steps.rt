@@ -1,9 +1,8 @@
 // Commands, and what each of them prints.
 use crate::bytes::Bytes;
 use prof_library::{
-    Command, Cut, Key, Kind, Limits, Query, Selection, SqlRuns, Store, Warehouse, line_of,
+    Command, Cut, Key, Kind, Limits, Query, RunStore, Selection, SqlRuns, Store, Warehouse, line_of,
 };
-use run_stores::RunStore;
 use sqlite::{Connection, MemStore};
 use std::alloc::Global;
 use std::test::Fail;

@@ -15,10 +15,12 @@ use Rattle.requests.specs.declared.commands.Command as requests
 use Rattle.histories.specs.declared.answers.Answer.{Answer}
 use Rattle.histories.specs.declared.answers.Answer.TheVariants.{Text}
 use Rattle.store_histories.specs.Answered.{Answers, Links}
-use Rattle.store_histories.proofs.Links.{links_append, links_clean, links_legal, links_after}
+use Rattle.store_histories.proofs.Links.{links_append}
+use Rattle.warehouse.proofs.Taken.{taken_by, taken_clean}
 use Rattle.byte_io.specs.Reads.{Reads}
-use Rattle.byte_io.specs.Imported.{FileReads, IsReadOf, WereRead}
-use Rattle.byte_io.specs.declared.imported.FileSource.{FileSource}
+use Rattle.byte_io.specs.Imported.{IsReadOf, WereRead}
+use Rattle.seen_files.specs.Seen.{SeenReads, opened}
+use Rattle.seen_files.specs.declared.seen.SeenFile.{SeenFile}
 use Rattle.answer_lines.specs.Answers.{is_refused}
 use Rattle.sessions.specs.Sessions.{AreLinesOf, AreReadAs, ArePrinted, ArePrintedInPart, IsLineOf, Prints, Took, WasDone, WasCut, WasPerformed, WasTold, answers_of, commands_of, status_after}
 use Rattle.sessions.specs.declared.session.Session.{Session}
@@ -80,9 +82,7 @@ part_printed text a b part = (text, part.0, line_alone (Text text) text (inl ref
 module _ {R W S N : Type 0} (g : Ghosts S) where
   took : (steps : History) (old new : Session R W S N) → Links g old.warehouse.limits steps old.warehouse.store new.warehouse.store → new.status ≡ status_after old.status (answers_of steps) → Took g steps old new
   took steps old new links status = record {
-    links = links;
-    legal = λ h has. links_legal g old.warehouse.limits h steps old.warehouse.store new.warehouse.store links has;
-    after = λ h has. links_after g old.warehouse.limits h steps old.warehouse.store new.warehouse.store links has;
+    taken = taken_by g old.warehouse.limits steps old.warehouse.store new.warehouse.store links;
     status = status;
   }
 
@@ -96,12 +96,12 @@ module _ {R W S N : Type 0} (g : Ghosts S) where
   took_on : (steps : History) (step : Step) (old mid new : Session R W S N) → mid.warehouse.limits ≡ old.warehouse.limits → Took g steps old mid → Took g (step ∷ []) mid new → Took g (steps ++ step ∷ []) old new
   took_on steps step old mid new same first last =
       took (steps ++ step ∷ []) old new
-      (links_append g old.warehouse.limits steps (step ∷ []) old.warehouse.store mid.warehouse.store new.warehouse.store first.links (subst (λ l. Links g l (step ∷ []) mid.warehouse.store new.warehouse.store) same last.links))
+      (links_append g old.warehouse.limits steps (step ∷ []) old.warehouse.store mid.warehouse.store new.warehouse.store first.taken.links (subst (λ l. Links g l (step ∷ []) mid.warehouse.store new.warehouse.store) same last.taken.links))
       (last.status ∙ ap (λ s. status_after s (step.answer ∷ [])) first.status ∙ status_on old.status (answers_of steps) (step.answer ∷ []) ∙ ap (status_after old.status) (sym (map-append (λ (t : Step). t.answer) steps (step ∷ []))))
 
   -- the disk was faithful before
   pub took_clean : (steps : History) (old new : Session R W S N) → Took g steps old new → IsFaithful g new.warehouse.store → IsFaithful g old.warehouse.store
-  took_clean steps old new it clean = links_clean g old.warehouse.limits steps old.warehouse.store new.warehouse.store it.links clean
+  took_clean steps old new it clean = taken_clean g old.warehouse.limits steps old.warehouse.store new.warehouse.store it.taken clean
 
   -- ---- one command
 
@@ -190,9 +190,9 @@ pub none_read : {F : Type 0} (remaining : F → Option (List ℕ)) → WereRead 
 none_read remaining = (None, refl)
 
 -- what came of a source that was newly made
-come_of : {R F D : Type 0} (remaining : F → Option (List ℕ)) (from to : FileSource R F D) (outcomes : List Outcome) → Reads (FileReads remaining) from outcomes to → Reads (IsReadOf remaining) from.file outcomes to.file
-come_of remaining from to [] same = ap (λ (s : FileSource _ _ _). s.file) same
-come_of remaining from to (o ∷ outcomes) it = (it.0.file, it.1, come_of remaining it.0 to outcomes it.2)
+come_of : {R F D : Type 0} (remaining : F → Option (List ℕ)) (from to : SeenFile R F D) (outcomes : List Outcome) → Reads (SeenReads remaining) from outcomes to → Reads (IsReadOf remaining) (opened from.file) outcomes (opened to.file)
+come_of remaining from to [] same = ap (λ (s : SeenFile _ _ _). opened s.file) same
+come_of remaining from to (o ∷ outcomes) it = (opened it.0.file, it.1, come_of remaining it.0 to outcomes it.2)
 
-pub were_read : {R F D : Type 0} (remaining : F → Option (List ℕ)) (from to : FileSource R F D) (outcomes : List Outcome) → from.file ≡ None → Reads (FileReads remaining) from outcomes to → WereRead remaining outcomes
-were_read remaining from to outcomes new it = (to.file, subst (λ file. Reads (IsReadOf remaining) file outcomes to.file) new (come_of remaining from to outcomes it))
+pub were_read : {R F D : Type 0} (remaining : F → Option (List ℕ)) (from to : SeenFile R F D) (outcomes : List Outcome) → from.file ≡ None → Reads (SeenReads remaining) from outcomes to → WereRead remaining outcomes
+were_read remaining from to outcomes new it = (opened to.file, subst (λ file. Reads (IsReadOf remaining) (opened file) outcomes (opened to.file)) new (come_of remaining from to outcomes it))

@@ -1,3 +1,4 @@
 pub mod Commands
+pub mod Remarks
 pub mod Sessions
 pub mod Works

@@ -6,17 +6,16 @@ use Rattle.std.specs.List.{list_any}
 use Rattle.run_stores.specs.declared.states.StoreState.{Ghosts}
 use Rattle.byte_io.specs.Outcomes.{Outcome}
 use Rattle.histories.specs.History.{History, Command, Step}
-use Rattle.histories.specs.Legal.{AreLegal}
 use Rattle.histories.specs.Requests.{command_read}
 use Rattle.histories.specs.declared.answers.Answer.{Answer}
 use Rattle.histories.specs.declared.answers.Answer.TheVariants.{Refused}
 use Rattle.histories.specs.declared.answers.Refusal.TheVariants.{Memory}
-use Rattle.store_histories.specs.Answered.{HasHistory, Links}
 use Rattle.byte_io.specs.Imported.{WereRead}
 use Rattle.requests.specs.Plain.{plain_request}
 use Rattle.requests.specs.declared.commands.Command as requests
 use Rattle.requests.specs.declared.commands.Command.TheVariants as asks
 use Rattle.answer_lines.specs.Answers.{is_refused, line_text, takes_memory}
+use Rattle.warehouse.specs.Taken.{WereTaken}
 use Rattle.sessions.specs.declared.session.Session.{Session}
 
 -- ---- the commands that are asked for
@@ -76,11 +75,9 @@ Prints result answers old new = MatchResult result (λ done. ArePrinted answers 
 -- ---- what is done
 
 module _ {R W S N : Type 0} (g : Ghosts S) where
-  -- these steps were taken, each from the store that the one before left: after a history that the store has each answer is legal, and the store has the history with all of them; the status is 1 where one is a refusal, else what it was
+  -- these steps were taken; the status is 1 where one is answered with a refusal, else what it was
   pub record Took (steps : History) (old new : Session R W S N) : Type 0 where
-    pub links : Links g old.warehouse.limits steps old.warehouse.store new.warehouse.store
-    pub legal : (h : History) → HasHistory g h old.warehouse.store → AreLegal old.warehouse.limits h steps
-    pub after : (h : History) → HasHistory g h old.warehouse.store → HasHistory g (h ++ steps) new.warehouse.store
+    pub taken : WereTaken g old.warehouse.limits steps old.warehouse.store new.warehouse.store
     pub status : new.status ≡ status_after old.status (answers_of steps)
 
   -- what was wanted is done: its commands are those of steps that were taken, and their answers were printed

@@ -1,14 +1,9 @@
--- What a work over a store comes to.
+-- What is printed of a total, and of a work over a store.
 use Rattle.std.specs.Prelude.{◌≡◌, ℕ, if◌then◌else◌, List, [], ◌++◌, codes, Option, take, Result, Ok, Err, MatchResult}
 use Rattle.std.specs.Io.KnownBytes.{Appends}
 use Rattle.std.specs.declared.alloc.AllocError.{AllocError}
-use Rattle.run_stores.specs.declared.states.StoreState.{Ghosts}
 use Rattle.file_reading.specs.declared.total.TotalText.{TotalText}
 use Rattle.histories.specs.History.{History, Command}
-use Rattle.histories.specs.Legal.{AreLegal}
-use Rattle.histories.specs.declared.limits.Limits.{Limits}
-use Rattle.store_histories.specs.Answered.{HasHistory, Links}
-use Rattle.histories.specs.Standard.{IsStandard}
 use Rattle.sessions.specs.Sessions.{ArePrinted, ArePrintedInPart, answers_of, commands_of, status_after}
 
 -- ---- a total
@@ -30,17 +25,11 @@ TotalPrinted total result old new =
 
 -- ---- a work
 
-module _ {W S : Type 0} (g : Ghosts S) (contents : W → Option (List ℕ)) (wanted : List Command → Type 0) where
-  -- under the standard limits steps were taken, each from the store that the one before left: their commands are the first of those wanted, and all where a status came of it, which is 1 where an answer is a refusal and else 0; their answers are printed, as far as they could be
-  pub record CameTo {E : Type 0} (result : Result ℕ E) (from to : W) (old new : S) : Type 0 where
-    pub limits : Limits
-    pub standard : IsStandard limits
-    pub steps : History
+module _ {W : Type 0} (contents : W → Option (List ℕ)) (wanted : List Command → Type 0) where
+  -- the commands of these steps are the first of those wanted, and all where a status came of it, which is 1 where an answer is a refusal and else 0; their answers are printed, as far as they could be
+  pub record WerePrinted {E : Type 0} (result : Result ℕ E) (from to : W) (steps : History) : Type 0 where
     pub rest : List Command
     pub commands : wanted (commands_of steps ++ rest)
-    pub links : Links g limits steps old new
-    pub legal : (h : History) → HasHistory g h old → AreLegal limits h steps
-    pub after : (h : History) → HasHistory g h old → HasHistory g (h ++ steps) new
     pub told : MatchResult result
         (λ status. (rest ≡ []) × (status ≡ status_after 0 (answers_of steps)) × ArePrinted (answers_of steps) (contents from) (contents to))
         (λ e. ArePrintedInPart (answers_of steps) (contents from) (contents to))

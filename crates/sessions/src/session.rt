@@ -10,12 +10,14 @@ ghost use Rattle.warehouse.specs.Answered.{IsGivenFor};
 ghost use Rattle.sessions.specs.Sessions.{Prints, Wants, WasPerformed, WasRun, WasTold, path_in, status_after};
 
 use crate::commands::WordsCommand;
+use crate::remarks::{Remark, keep_remark};
 use answer_lines::{is_refused, line_of};
-use byte_io::{FileSource, write_text};
+use byte_io::write_text;
 use cost_exports::{CellSums, Unwritten, write_csv};
 use histories::{Answer, Refusal};
 use requests::{Command, Query, Selection};
 use run_stores::RunStore;
+use seen_files::SeenFile;
 use shared_texts::TextSink;
 use std::alloc::AllocError;
 use std::io;
@@ -143,8 +145,12 @@ impl<'a, R: Files + AllocGlobal, W: Write + Drop, S: RunStore> Session<'a, R, W,
         }
     }
 
-    /// Does a command, and prints its answer.
-    fn perform(&mut self, command: &WordsCommand<'a>) -> io::Result<()>
+    /// Does a command, and prints its answer. What was found of its file is kept beside it.
+    fn perform(
+        &mut self,
+        command: &WordsCommand<'a>,
+        remarks: &mut Vec<Remark<'a>>,
+    ) -> io::Result<()>
         ensures limits { self.new.warehouse.limits ≡ self.old.warehouse.limits }
         ensures answered { IsFaithful S.StoreState self.new.warehouse.store
             → WasPerformed S.StoreState W.contents (WereRead R.File.remaining) (plain_request command.now) result self.old self.new }
@@ -152,20 +158,27 @@ impl<'a, R: Files + AllocGlobal, W: Write + Drop, S: RunStore> Session<'a, R, W,
         if let Command::Ask(Query::Csv(selection)) = command {
             return self.ask_csv(selection);
         }
-        let mut source = FileSource::new(self.rt, path_of(command));
+        let path = path_of(command);
+        let mut source = SeenFile::new(self.rt, path);
         let alloc = self.rt.alloc();
         let answer = self.warehouse.perform(alloc, command, &mut source);
+        keep_remark(remarks, path, command, &answer, &source);
         self.tell(answer)
     }
 
-    /// Does commands, one after another, and prints their answers. It stops where printing fails.
-    pub fn run(&mut self, commands: &[WordsCommand<'a>]) -> io::Result<()>
+    /// Does commands, one after another, and prints their answers. It stops where printing fails. What was found of their
+    /// files is kept beside them.
+    pub fn run(
+        &mut self,
+        commands: &[WordsCommand<'a>],
+        remarks: &mut Vec<Remark<'a>>,
+    ) -> io::Result<()>
         ensures limits { self.new.warehouse.limits ≡ self.old.warehouse.limits }
         ensures done { IsFaithful S.StoreState self.new.warehouse.store
             → WasRun S.StoreState W.contents (Wants R.File.remaining commands.now) result self.old self.new }
     {
         for command in commands {
-            self.perform(command)?;
+            self.perform(command, remarks)?;
         }
         Ok(())
     }

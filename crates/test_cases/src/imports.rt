@@ -1,11 +1,9 @@
 // Imports into a warehouse of small limits.
 use crate::given::Given;
 use crate::holding::holds;
-use crate::stores::empty_runs;
+use crate::stores::{StoreJob, done_over, empty};
 use prof_store::StoreError;
 use run_stores::RunStore;
-use sql_runs::SqlRuns;
-use sqlite::MemStore;
 use std::alloc::Global;
 use std::test::Fail;
 use warehouse::{Answer, Command, Kind, Limits, Refusal, Source, Warehouse};
@@ -32,15 +30,14 @@ fn word(answer: &Answer) -> &'static str {
     }
 }
 
-/// An empty warehouse that imports files of so many bytes, two runs, one group, and three numbers.
-fn small_house(alloc: Global, bytes: u16) -> Result<Warehouse<SqlRuns<MemStore>>, StoreError> {
-    let limits = Limits {
+/// Files of so many bytes, two runs, one group, and three numbers.
+fn small(bytes: u16) -> Limits {
+    Limits {
         bytes: u64::from(bytes),
         runs: 2,
         groups: 1,
         numbers: 3,
-    };
-    Ok(Warehouse::new(empty_runs(alloc, false)?, limits))
+    }
 }
 
 /// What the import of a source is answered.
@@ -65,6 +62,23 @@ fn removes_and_makes_one_group<S: RunStore>(house: &mut Warehouse<S>, alloc: Glo
     removed == "done" && first == "done" && second == "full"
 }
 
+/// A source is imported under limits.
+#[derive(Drop)]
+struct Imported {
+    limits: Limits,
+    source: Given,
+}
+
+impl StoreJob for Imported {
+    type Found = &'static str;
+
+    fn over<S: RunStore + Drop>(self, alloc: Global, store: S) -> (&'static str, S) {
+        let mut house = Warehouse::new(store, self.limits);
+        let answer = import(&mut house, alloc, self.source);
+        (answer, house.into_store())
+    }
+}
+
 pub fn a_file_has_at_most_so_many_bytes(alloc: Global) -> Result<(), Fail> {
     for (bytes, most, sound, wanted) in [
         (15, 1, u64::MAX, "run 1"),
@@ -75,66 +89,91 @@ pub fn a_file_has_at_most_so_many_bytes(alloc: Global) -> Result<(), Fail> {
         (14, 1, 15, "too long"),
         (14, 1, 14, "read failed"),
     ] {
-        let mut house = small_house(alloc, bytes)?;
         let source = Given {
             left: SMALL,
             most,
             sound,
         };
-        holds(
-            import(&mut house, alloc, source) == wanted,
-            "another answer",
-        )?;
+        let limits = small(bytes);
+        let (answer, _) = done_over(alloc, empty(alloc, false)?, Imported { limits, source });
+        holds(answer == wanted, "another answer")?;
+    }
+    Ok(())
+}
+
+/// Fails where one of these files is answered otherwise.
+fn import_all<S: RunStore>(
+    alloc: Global,
+    house: &mut Warehouse<S>,
+    files: &[(&'static [u8], &'static str)],
+) -> Result<(), Fail> {
+    for (bytes, wanted) in files {
+        let answer = import(house, alloc, Given::sound(bytes, 100));
+        holds(answer == *wanted, "another answer")?;
     }
     Ok(())
 }
 
 /// A fault and a sum that does not fit are found before a lack of room; what is held is no new run.
-pub fn limits_made_small(alloc: Global) -> Result<(), Fail> {
-    let mut house = small_house(alloc, 1000)?;
-    for (bytes, wanted) in [
+fn meets_its_limits<S: RunStore>(alloc: Global, house: &mut Warehouse<S>) -> Result<(), Fail> {
+    let files = [
         (SMALL, "run 1"),
         (b"events: Dr\n", "run 2"),
         (b"events: Bc\n", "full"),
         (SMALL, "held 1"),
         (b"events: Ir\n1 2 3\n", "fault of line 2"),
         (b"events: Bc\n1 9223372036854775807\n2 1\n", "overflow"),
-    ] {
-        holds(
-            import(&mut house, alloc, Given::sound(bytes, 100)) == wanted,
-            "another answer",
-        )?;
-    }
+    ];
+    import_all(alloc, house, &files)?;
     holds(
-        removes_and_makes_one_group(&mut house, alloc),
+        removes_and_makes_one_group(house, alloc),
         "one group is not made, or a second one is",
     )?;
-    for (bytes, wanted) in [
-        (b"events: Bc\n", "run numbers spent"),
+    let files = [
+        (b"events: Bc\n".as_slice(), "run numbers spent"),
         (b"events: Dr\n", "held 2"),
-    ] {
-        holds(
-            import(&mut house, alloc, Given::sound(bytes, 100)) == wanted,
-            "another answer",
-        )?;
-    }
-    Ok(())
+    ];
+    import_all(alloc, house, &files)
 }
 
-/// Whether an import into a store is refused, and leaves no run.
-fn is_refused<S: RunStore>(alloc: Global, store: S) -> (Result<bool, StoreError>, S) {
-    let mut house = Warehouse::new(store, Limits::standard());
-    let answer = import(&mut house, alloc, Given::sound(SMALL, 100));
-    let mut store = house.into_store();
-    let is_refused = match store.run_numbers(alloc) {
-        Ok(numbers) => Ok(answer == "store failed" && numbers.is_empty()),
-        Err(end) => Err(end),
-    };
-    (is_refused, store)
+#[derive(Drop)]
+struct Limited {}
+
+impl StoreJob for Limited {
+    type Found = Result<(), Fail>;
+
+    fn over<S: RunStore + Drop>(self, alloc: Global, store: S) -> (Result<(), Fail>, S) {
+        let mut house = Warehouse::new(store, small(1000));
+        let found = meets_its_limits(alloc, &mut house);
+        (found, house.into_store())
+    }
+}
+
+pub fn limits_made_small(alloc: Global) -> Result<(), Fail> {
+    done_over(alloc, empty(alloc, false)?, Limited {}).0
+}
+
+/// Whether an import is refused, and leaves no run.
+#[derive(Drop)]
+struct Refused {}
+
+impl StoreJob for Refused {
+    type Found = Result<bool, StoreError>;
+
+    fn over<S: RunStore + Drop>(self, alloc: Global, store: S) -> (Result<bool, StoreError>, S) {
+        let mut house = Warehouse::new(store, Limits::standard());
+        let answer = import(&mut house, alloc, Given::sound(SMALL, 100));
+        let mut store = house.into_store();
+        let is_refused = match store.run_numbers(alloc) {
+            Ok(numbers) => Ok(answer == "store failed" && numbers.is_empty()),
+            Err(end) => Err(end),
+        };
+        (is_refused, store)
+    }
 }
 
 /// An import would end the transaction that another began.
 pub fn nothing_is_put_within_a_transaction(alloc: Global) -> Result<(), Fail> {
-    let (is_refused, _store) = is_refused(alloc, empty_runs(alloc, true)?);
+    let (is_refused, _) = done_over(alloc, empty(alloc, true)?, Refused {});
     holds(is_refused?, "it is imported, or a run stands")
 }

@@ -1,7 +1,7 @@
 // Public calls that a library's user has and the program does not make.
 use crate::given::Given;
 use crate::holding::holds;
-use crate::stores::empty_runs;
+use crate::stores::{StoreJob, done_over, empty};
 use callgrind_reader::Reader;
 use cg_formulas::{FileHead, Flat};
 use cg_text::{ListVec, fields};
@@ -125,23 +125,25 @@ pub fn rows_of_a_file_have_their_names(alloc: Global) -> Result<(), Fail> {
 
 /// A file is imported, a source annotated, the run put into a group and removed.
 fn commands<'a>(alloc: Global) -> Result<Vec<Command<Given, &'a [u8]>>, AllocError> {
-    let mut commands = Vec::new(alloc);
-    commands.push(Command::Import {
+    let import = Command::Import {
         kind: Kind::Callgrind,
         label: b"a".as_slice(),
         source: Given::sound(b"events: Ir\nfl=a.c\nfn=f\n0 1\n1 2\n9 4\n", 7),
-    })?;
-    commands.push(Command::Annotate {
+    };
+    let annotate = Command::Annotate {
         selection: Selection::All,
         event: b"Ir".as_slice(),
         file: b"a.c".as_slice(),
         source: Given::sound(b"int x;", 7),
-    })?;
-    commands.push(Command::MakeGroup(b"g".as_slice()))?;
-    commands.push(Command::Remove(2))?;
-    commands.push(Command::Join(b"g".as_slice(), 1))?;
-    commands.push(Command::Ask(Query::Groups))?;
-    Ok(commands)
+    };
+    Ok(vec![in alloc;
+        import,
+        annotate,
+        Command::MakeGroup(b"g".as_slice()),
+        Command::Remove(2),
+        Command::Join(b"g".as_slice(), 1),
+        Command::Ask(Query::Groups),
+    ]?)
 }
 
 /// Whether a text is this one.
@@ -179,9 +181,23 @@ fn are_answered<S: RunStore>(alloc: Global, house: &mut Warehouse<S>) -> Result<
     Ok(answers.len() == 6 && are_wanted)
 }
 
+/// The list is run.
+#[derive(Drop)]
+struct Answered {}
+
+impl StoreJob for Answered {
+    type Found = Result<bool, AllocError>;
+
+    fn over<S: RunStore + Drop>(self, alloc: Global, store: S) -> (Result<bool, AllocError>, S) {
+        let mut house = Warehouse::new(store, Limits::standard());
+        let found = are_answered(alloc, &mut house);
+        (found, house.into_store())
+    }
+}
+
 pub fn a_list_of_commands_is_answered(alloc: Global) -> Result<(), Fail> {
-    let mut house = Warehouse::new(empty_runs(alloc, false)?, Limits::standard());
-    holds(are_answered(alloc, &mut house)?, "another answer")
+    let (are_answered, _) = done_over(alloc, empty(alloc, false)?, Answered {});
+    holds(are_answered?, "another answer")
 }
 
 /// Whether a head is verified so where the sum of its first event is 9.

@@ -2,7 +2,7 @@
 // out of memory and changes nothing, the others are answered, and the next call is whole.
 use crate::given::Given;
 use crate::holding::holds;
-use crate::stores::empty_runs;
+use crate::stores::{StoreJob, done_over, empty};
 use cost_rows::Key;
 use report_texts::Cut;
 use run_stores::RunStore;
@@ -20,16 +20,12 @@ const COSTS: &[u8] =
 
 /// It is imported, a group is made, the run joins it, and the groups and the costs are asked for.
 fn commands<'a>(alloc: Global) -> Result<Vec<Command<Given, &'a [u8]>>, AllocError> {
-    let mut commands = Vec::new(alloc);
-    commands.push(Command::Import {
+    let import = Command::Import {
         kind: Kind::Callgrind,
         label: b"a".as_slice(),
         source: Given::sound(CALLS, 100),
-    })?;
-    commands.push(Command::MakeGroup(b"g".as_slice()))?;
-    commands.push(Command::Join(b"g".as_slice(), 1))?;
-    commands.push(Command::Ask(Query::Groups))?;
-    commands.push(Command::Ask(Query::By {
+    };
+    let by_function = Query::By {
         selection: Selection::All,
         key: Key::Function,
         event: b"Instructions".as_slice(),
@@ -37,8 +33,14 @@ fn commands<'a>(alloc: Global) -> Result<Vec<Command<Given, &'a [u8]>>, AllocErr
             limit: None,
             threshold: 100,
         },
-    }))?;
-    Ok(commands)
+    };
+    Ok(vec![in alloc;
+        import,
+        Command::MakeGroup(b"g".as_slice()),
+        Command::Join(b"g".as_slice(), 1),
+        Command::Ask(Query::Groups),
+        Command::Ask(by_function),
+    ]?)
 }
 
 /// A letter for a text: of the group with the run, without it, of no group, or of the costs.
@@ -105,17 +107,38 @@ fn wanted(first: Result<[u8; 5], AllocError>) -> [u8; 5] {
     *b"-----"
 }
 
-pub fn memory_refused_to_run(alloc: Global) -> Result<(), Fail> {
-    let store = match empty_runs(alloc, false) {
-        Ok(store) => store,
-        Err(_) => empty_runs(alloc, false)?,
-    };
-    let mut house = Warehouse::new(store, Limits::standard());
-    let first = ran(alloc, &mut house);
-    let second = match ran(alloc, &mut house) {
+/// Whether the list is answered a second time as it has to be, or a third time where memory was refused to the second.
+fn is_answered_again<S: RunStore>(
+    alloc: Global,
+    house: &mut Warehouse<S>,
+) -> Result<bool, AllocError> {
+    let first = ran(alloc, house);
+    let second = match ran(alloc, house) {
         Ok(letters) if !letters.contains(&b'm') => letters,
-        _ => ran(alloc, &mut house)?,
+        _ => ran(alloc, house)?,
     };
-    holds(second == wanted(first), "another answer behind a refusal")?;
-    Ok(())
+    Ok(second == wanted(first))
+}
+
+/// The list is run again and again.
+#[derive(Drop)]
+struct Again {}
+
+impl StoreJob for Again {
+    type Found = Result<bool, AllocError>;
+
+    fn over<S: RunStore + Drop>(self, alloc: Global, store: S) -> (Result<bool, AllocError>, S) {
+        let mut house = Warehouse::new(store, Limits::standard());
+        let found = is_answered_again(alloc, &mut house);
+        (found, house.into_store())
+    }
+}
+
+pub fn memory_refused_to_run(alloc: Global) -> Result<(), Fail> {
+    let store = match empty(alloc, false) {
+        Ok(store) => store,
+        Err(_) => empty(alloc, false)?,
+    };
+    let (is_answered_again, _) = done_over(alloc, store, Again {});
+    holds(is_answered_again?, "another answer behind a refusal")
 }

@@ -2,12 +2,12 @@
 // file, or of both. Opened again, they tell what they told before or with it, and where it was answered as done, with it.
 use crate::given::Given;
 use crate::refused::CALLS;
+use crate::stores::{StoreJob, done_over};
 use cost_rows::Key;
 use prof_store::Store;
 use report_texts::Cut;
 use run_stores::RunStore;
-use sql_runs::SqlRuns;
-use sqlite::{Connection, FileStore, Options};
+use sqlite::{Alter, Connection, FileStore, Options};
 use sqlite_disk::{Disk, Files};
 use std::alloc::{AllocError, Global};
 use std::test::Fail;
@@ -29,9 +29,6 @@ const BACK: [&str; 4] = [
     "DROP TABLE thread_cell",
     "UPDATE meta SET schema = 1",
 ];
-
-// What is done to a store is written over any, and what to a database over any files: at the type of these each function
-// takes minutes to prove.
 
 /// Opens the database that files hold, or hands them back.
 fn opened<D: Disk + Drop>(
@@ -55,36 +52,30 @@ fn closed<D: Disk + Drop>(conn: Connection<FileStore<D>>) -> Files<D> {
     }
 }
 
-/// Imports a file into a store: whether that is answered as done.
-fn imported<S: RunStore>(alloc: Global, store: S) -> (bool, S) {
-    let mut house = Warehouse::new(store, Limits::standard());
-    let mut source = Given::sound(CALLS, 4096);
-    let answer = house.import(alloc, Kind::Callgrind, b"a", &mut source);
-    (matches!(answer, Answer::Run(_)), house.into_store())
-}
+/// A file is imported: whether that is answered as done.
+#[derive(Drop)]
+struct Imported {}
 
-/// The same over a database.
-fn imported_in<D: Disk + Drop>(
-    alloc: Global,
-    store: Store<FileStore<D>>,
-) -> (bool, Connection<FileStore<D>>) {
-    let (is_done, runs) = imported(alloc, SqlRuns { store });
-    (is_done, runs.into_connection())
+impl StoreJob for Imported {
+    type Found = bool;
+
+    fn over<S: RunStore + Drop>(self, alloc: Global, store: S) -> (bool, S) {
+        let mut house = Warehouse::new(store, Limits::standard());
+        let mut source = Given::sound(CALLS, 4096);
+        let answer = house.import(alloc, Kind::Callgrind, b"a", &mut source);
+        (matches!(answer, Answer::Run(_)), house.into_store())
+    }
 }
 
 /// Does a step over a database: whether it is done.
-fn done<D: Disk + Drop>(
-    alloc: Global,
-    conn: Connection<FileStore<D>>,
-    step: Step,
-) -> (bool, Connection<FileStore<D>>) {
+fn done<S: Alter + Drop>(alloc: Global, conn: Connection<S>, step: Step) -> (bool, Connection<S>) {
     let opened = match step {
         Step::Create => Store::create(alloc, conn),
         _ => Store::open(alloc, conn),
     };
     match opened {
         Ok(store) => match step {
-            Step::Import => imported_in(alloc, store),
+            Step::Import => done_over(alloc, store, Imported {}),
             _ => (true, store.into_connection()),
         },
         Err((_, conn)) => (false, conn),
@@ -163,18 +154,25 @@ fn told_of<S: RunStore>(alloc: Global, house: &mut Warehouse<S>) -> Result<Vec<u
     Ok(told)
 }
 
-/// The same of a store, which is handed back.
-fn told_over<S: RunStore>(alloc: Global, store: S) -> (Result<Vec<u8>, AllocError>, S) {
-    let mut house = Warehouse::new(store, Limits::standard());
-    let told = told_of(alloc, &mut house);
-    (told, house.into_store())
+/// It is told.
+#[derive(Drop)]
+struct Telling {}
+
+impl StoreJob for Telling {
+    type Found = Result<Vec<u8>, AllocError>;
+
+    fn over<S: RunStore + Drop>(self, alloc: Global, store: S) -> (Result<Vec<u8>, AllocError>, S) {
+        let mut house = Warehouse::new(store, Limits::standard());
+        let told = told_of(alloc, &mut house);
+        (told, house.into_store())
+    }
 }
 
 /// The same of the store in a database; nothing where there is none, and then one can be made.
-fn told_in<D: Disk + Drop>(alloc: Global, conn: Connection<FileStore<D>>) -> Result<Vec<u8>, Fail> {
+fn told_in<S: Alter + Drop>(alloc: Global, conn: Connection<S>) -> Result<Vec<u8>, Fail> {
     match Store::open(alloc, conn) {
         Ok(store) => {
-            let (told, _runs) = told_over(alloc, SqlRuns { store });
+            let (told, _) = done_over(alloc, store, Telling {});
             Ok(told?)
         }
         Err((_, conn)) => match Store::create(alloc, conn) {

@@ -4,7 +4,7 @@ use crate::given::Given;
 use prof_store::{Store, StoreError};
 use run_stores::RunStore;
 use sql_runs::SqlRuns;
-use sqlite::{Connection, MemStore, params};
+use sqlite::{Alter, Connection, MemStore, params};
 use std::alloc::Global;
 use std::test::Fail;
 use warehouse::{Answer, Command, Limits, Warehouse};
@@ -69,12 +69,40 @@ pub(crate) fn execute(conn: &mut Held, text: &str) -> Result<(), Fail> {
     Ok(())
 }
 
-/// Does a command over a store, which is handed back. It is written over any store: at the type of one it takes ten times as
-/// long to prove.
-fn applied<S: RunStore>(alloc: Global, store: S, command: Command<Given, &[u8]>) -> (Answer, S) {
-    let mut house = Warehouse::new(store, Limits::standard());
-    let answer = house.apply(alloc, command);
-    (answer, house.into_store())
+/// What is done over a store. It is written over any: what is called at the type of a store takes a third of a minute to prove
+/// at each call, so that is done in one place.
+pub(crate) trait StoreJob {
+    /// What it finds.
+    type Found;
+
+    /// Does it, and hands the store back.
+    fn over<S: RunStore + Drop>(self, alloc: Global, store: S) -> (Self::Found, S);
+}
+
+/// Does a job over the store of a database.
+pub(crate) fn done_over<S: Alter + Drop, J: StoreJob>(
+    alloc: Global,
+    store: Store<S>,
+    job: J,
+) -> (J::Found, Connection<S>) {
+    let (found, runs) = job.over(alloc, SqlRuns { store });
+    (found, runs.into_connection())
+}
+
+/// A command is done.
+#[derive(Drop)]
+struct Applied<'a> {
+    command: Command<Given, &'a [u8]>,
+}
+
+impl StoreJob for Applied<'_> {
+    type Found = Answer;
+
+    fn over<S: RunStore + Drop>(self, alloc: Global, store: S) -> (Answer, S) {
+        let mut house = Warehouse::new(store, Limits::standard());
+        let answer = house.apply(alloc, self.command);
+        (answer, house.into_store())
+    }
 }
 
 /// Does a command over the store of a database.
@@ -83,16 +111,8 @@ pub(crate) fn answered(
     conn: Held,
     command: Command<Given, &[u8]>,
 ) -> Result<(Answer, Held), Fail> {
-    let store = match Store::open(alloc, conn) {
-        Ok(store) => store,
+    match Store::open(alloc, conn) {
+        Ok(store) => Ok(done_over(alloc, store, Applied { command })),
         Err(_) => Err("no store")?,
-    };
-    let (answer, runs) = applied(alloc, SqlRuns { store }, command);
-    Ok((answer, runs.into_connection()))
-}
-
-/// The same as a store of runs, empty.
-pub(crate) fn empty_runs(alloc: Global, is_within: bool) -> Result<SqlRuns<MemStore>, StoreError> {
-    let store = empty(alloc, is_within)?;
-    Ok(SqlRuns { store })
+    }
 }

@@ -1,4 +1,5 @@
 mod GivenLemmas
 mod NoneLemmas
 mod Runs
+pub mod Taken
 mod Unread

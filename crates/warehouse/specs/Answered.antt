@@ -1,12 +1,11 @@
 -- What commands say, and what a list of them is answered and leaves.
-use Rattle.std.specs.Prelude.{◌≡◌, ◌⊎◌, ℕ, ◌≤◌, map, List, [], ◌∷◌, ◌++◌, length, Result, Ok, Err}
+use Rattle.std.specs.Prelude.{◌≡◌, ◌⊎◌, ℕ, ◌≤◌, map, List, [], ◌∷◌, length, Result, Ok, Err}
 use Rattle.std.specs.Borrow.{Bor}
 use Rattle.run_stores.specs.declared.states.StoreState.{Ghosts}
 use Rattle.run_stores.specs.Calls.{IsFaithful}
 use Rattle.byte_io.specs.Outcomes.{Outcome}
 use Rattle.report_texts.specs.Csv.{EventSpot, csv_text}
 use Rattle.histories.specs.History.{History, Command, Step}
-use Rattle.histories.specs.Legal.{AreLegal}
 use Rattle.histories.specs.declared.answers.Answer.{Answer}
 use Rattle.histories.specs.declared.answers.Answer.TheVariants as answers
 use Rattle.histories.specs.declared.answers.Refusal.TheVariants as reasons
@@ -14,11 +13,12 @@ use Rattle.histories.specs.declared.limits.Limits.{Limits}
 use Rattle.byte_io.specs.Reads.{Reads}
 use Rattle.byte_io.specs.declared.reading.Unread.{Unread}
 use Rattle.byte_io.specs.declared.reading.Unread.TheVariants as unread
-use Rattle.store_histories.specs.Answered.{HasHistory, Answers, Links}
+use Rattle.store_histories.specs.Answered.{Answers}
 use Rattle.histories.specs.Requests.{command_read}
 use Rattle.requests.specs.Plain.{plain_command}
 use Rattle.requests.specs.declared.commands.Command as commands
 use Rattle.requests.specs.declared.commands.Command.TheVariants as input
+use Rattle.warehouse.specs.Taken.{WereTaken}
 
 -- a command whose names are lent
 abbrev pub Lent : Type 0 → Type 0
@@ -60,14 +60,12 @@ module _ {S R : Type 0} (g : Ghosts S) (reads : R → Outcome → R → Type 0) 
     pub came : Reads reads source outcomes to
     pub answers : IsFaithful g new → Answers g limits (command outcomes) answer old new
 
-  -- commands were run: each is a step from the store that the one before left, and is given its answer; after a history that the store has, each answer is legal, and the store has the history with all steps
+  -- commands were run: each is a step that was taken, and is given its answer
   pub record WasRun (limits : Limits) (list : List (Lent R)) (given : List Answer) (old new : S) : Type 0 where
     pub steps : History
     pub command : AreCommandsOf reads list steps
     pub answered : map (λ (step : Step). step.answer) steps ≡ given
-    pub links : Links g limits steps old new
-    pub legal : (h : History) → HasHistory g h old → AreLegal limits h steps
-    pub after : (h : History) → HasHistory g h old → HasHistory g (h ++ steps) new
+    pub taken : WereTaken g limits steps old new
 
 -- a source that was not read to its end is refused as such
 abbrev pub unread_for : Unread → Answer

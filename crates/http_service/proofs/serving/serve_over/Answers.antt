@@ -11,8 +11,13 @@ returns g c clean =
     let after = c.into_store.ensures in
     let standard : IsStandard c.standard.result = record { bytes = c.standard.ensures.bytes; runs = c.standard.ensures.runs; groups = c.standard.ensures.groups; numbers = c.standard.ensures.numbers } in
     let served = c.serve-served.ensures.served (subst (IsFaithful g.S.StoreState) after clean) in
+    let here : HasServed g.S.StoreState c.with_most-warehouse.result.limits c.args.service.requests c.args.store c.into_store.result =
+    subst (λ s. HasServed g.S.StoreState c.with_most-warehouse.result.limits c.args.service.requests s c.into_store.result) before
+    (subst (λ s. HasServed g.S.StoreState c.with_most-warehouse.result.limits c.args.service.requests c.with_most-warehouse.result.store s) (sym after) served) in
     record {
       limits = c.with_most-warehouse.result.limits;
       standard = subst IsStandard (sym limits) standard;
-      served = subst (λ s. HasServed g.S.StoreState c.with_most-warehouse.result.limits c.args.service.requests s c.into_store.result) before (subst (λ s. HasServed g.S.StoreState c.with_most-warehouse.result.limits c.args.service.requests c.with_most-warehouse.result.store s) (sym after) served);
+      steps = here.steps;
+      taken = here.taken;
+      says = here.of_requests;
     }
