@@ -1,5 +1,5 @@
 -- What a file is read as.
-use Rattle.std.proofs.Common.{◌≡◌, ℕ, List, map, Result, Ok, Err, IsErrAnd, ◌∙◌}
+use Rattle.std.proofs.Common.{◌≡◌, ℕ, List, map, Result, Ok, Err, ◌∙◌}
 use Rattle.cg_text.specs.Lines.{lines_of}
 use Rattle.cg_text.specs.Readings.{reading_of}
 use Rattle.cg_formulas.specs.declared.heads.FileHead.{FileHead}
@@ -21,8 +21,3 @@ pub either_way : (r : Result FileHead ReadEnd) (P Q : Type 0) → P → Q → Ma
 either_way (Ok head) P Q p q = p
 either_way (Err (ends.Fault fault line)) P Q p q = p
 either_way (Err ends.Memory) P Q p q = q
-
--- what holds where memory ran out
-pub out_of_memory : (r : Result FileHead ReadEnd) (P Q : Type 0) → IsErrAnd r (λ end. end ≡ ends.Memory) → Q → MatchMemory r P Q
-out_of_memory (Ok head) P Q h q = absurd h
-out_of_memory (Err end) P Q h q = rw h q

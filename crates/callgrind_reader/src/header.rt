@@ -169,7 +169,13 @@ impl Header {
         ensures comes { (back : List Reading) → HeaderIs self back → ComesBy (formulas_fault back) result back }
         ensures few { IfOk result (λ head. length head.events ≤ 64) }
     {
-        let stated = self.stated_totals()?;
+        let stated = match self.stated_totals() {
+            Ok(stated) => stated,
+            Err(AllocError) => {
+                drop(self);
+                return Err(ReadEnd::Memory);
+            }
+        };
         let Header {
             events,
             layout: _,
@@ -185,8 +191,13 @@ impl Header {
                 derived,
                 stated,
             }),
-            Err(FlatEnd::Fault(fault, line)) => Err(ReadEnd::Fault(fault, line)),
-            Err(FlatEnd::Memory) => Err(ReadEnd::Memory),
+            Err(end) => {
+                drop((events, stated));
+                Err(match end {
+                    FlatEnd::Fault(fault, line) => ReadEnd::Fault(fault, line),
+                    FlatEnd::Memory => ReadEnd::Memory,
+                })
+            }
         }
     }
 }

@@ -74,7 +74,12 @@ impl Reader {
         ensures untouched { IsSpent self → sink.new ≡ sink.old }
     {
         let Reader { mut state, pieces } = self;
-        pieces.finish(&mut state, sink)?;
-        state.head()
+        match pieces.finish(&mut state, sink) {
+            Ok(()) => state.head(),
+            Err(AllocError) => {
+                drop(state);
+                Err(ReadEnd::Memory)
+            }
+        }
     }
 }

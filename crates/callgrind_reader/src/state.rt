@@ -276,13 +276,24 @@ impl State {
         ensures comes { (back : List Reading) → RepresentsAfter self back → Comes result back }
         ensures few { IfOk result (λ head. length head.events ≤ 64) }
     {
-        if let Some((fault, line)) = self.fault {
+        let State {
+            header,
+            names,
+            call,
+            fault,
+            row,
+            ..
+        } = self;
+        // What is dropped at each way out is slow to prove.
+        drop(names);
+        drop(row);
+        if let Some((fault, line)) = fault {
             return Err(ReadEnd::Fault(fault, line));
         }
-        if let Some((line, _)) = self.call {
+        if let Some((line, _)) = call {
             return Err(ReadEnd::Fault(Fault::CallWithoutCost, line));
         }
-        self.header.into_head()
+        header.into_head()
     }
 }
 

@@ -17,8 +17,13 @@ fn total_of<S: Source>(alloc: Global, source: &mut S) -> Result<TotalText, Unrea
     ensures { WasRead S.reads 1073741824 source.old source.new result IsTotalOf }
 {
     let mut total = Total::new(alloc)?;
-    read_all(alloc, FILE_LIMIT, source, &mut total)?;
-    Ok(total.finish(alloc)?)
+    match read_all(alloc, FILE_LIMIT, source, &mut total) {
+        Ok(()) => Ok(total.finish(alloc)?),
+        Err(end) => {
+            drop(total);
+            Err(end)
+        }
+    }
 }
 
 /// The total of what a source gives, where that is not too long and no read failed, else the line

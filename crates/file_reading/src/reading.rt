@@ -19,6 +19,11 @@ pub fn parse_file<R: Source>(
     ensures { WasRead R.reads limit source.old source.new result (IsParsedOf kind) }
 {
     let mut parser = FileParser::new(alloc, kind)?;
-    read_all(alloc, limit, source, &mut parser)?;
-    Ok(parser.finish()?)
+    match read_all(alloc, limit, source, &mut parser) {
+        Ok(()) => Ok(parser.finish()?),
+        Err(end) => {
+            drop(parser);
+            Err(end)
+        }
+    }
 }

@@ -42,6 +42,13 @@ impl<'a, W: Write + Drop> IfStands<'a, W> {
         self.stood = Some(stood);
         stood
     }
+
+    /// Where it was printed.
+    pub fn into_out(self) -> W
+        ensures { result ≡ self.entry.out }
+    {
+        self.out
+    }
 }
 
 impl<'a, W: Write + Drop> Write for IfStands<'a, W> {

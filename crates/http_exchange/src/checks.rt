@@ -105,8 +105,13 @@ fn request_by(
     ensures { IsMet (spec.request_by limit method.now target.now (map (header_bytes bytes.now) fields.now)) result }
 {
     let (place, asked) = asked_by(alloc, router, method, target)?;
-    let length = length_at(limit, place, bytes, fields)?;
-    Ok(Request { asked, length })
+    match length_at(limit, place, bytes, fields) {
+        Ok(length) => Ok(Request { asked, length }),
+        Err(failing) => {
+            drop(asked); // at one place, so that its proof is small
+            Err(failing)
+        }
+    }
 }
 
 /// What the request asks for whose head `find_head` found in these bytes, or the check that it fails: the

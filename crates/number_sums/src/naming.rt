@@ -67,9 +67,19 @@ fn merge_named<'n, N: NameTable>(
     ensures held { IfOk result (λ _. AllByRecursion (IsHeld (N.name_rows names.now)) (numbers_told key sums.now)) }
 {
     let mut merged = LentSums::new(alloc, key);
+    // Sums that are alive at a way out cost the prover much.
     for (part, cost) in sums.iter() {
-        let row = named_row(names, key, part, cost)?;
-        merged.add(&row)?;
+        let row = match named_row(names, key, part, cost) {
+            Ok(row) => row,
+            Err(end) => {
+                drop(merged);
+                return Err(end);
+            }
+        };
+        if merged.add(&row).is_err() {
+            drop(merged);
+            return Err(StoreError::Memory);
+        }
     }
     Ok(merged)
 }

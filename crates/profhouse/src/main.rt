@@ -1,9 +1,54 @@
 //! A warehouse of run profiles whose every figure is exact.
 #![tactic(auto)]
 
+ghost use Rattle.std.specs.Prelude.{true, [], None};
+
 use anyhow::Result;
+use program_stores::{Openings, Outputs};
+use sqlite_disk::Start;
+use std::io;
+use std::io::Printer;
 use std::process::ExitCode;
 
+/// The files of the host. Of what they hold the checker knows nothing: what is proved is so for all that they may hold. As
+/// the kit's `Unknown`, it supposes that a torn write leaves each byte old or new.
+#[derive(Drop)]
+struct HostFiles;
+
+impl Start for HostFiles {
+    ghost log = { [] };
+
+    ghost db = { [] };
+
+    ghost is_mixing = { true };
+
+    fn mixes() -> bool {
+        true
+    }
+}
+
+impl Openings for HostFiles {
+    fn next() -> HostFiles {
+        HostFiles
+    }
+}
+
+/// The standard output, of which the checker knows no byte.
+struct StandardOutput<'a> {
+    rt: &'a HostRuntime,
+}
+
+impl<'a> Outputs for StandardOutput<'a> {
+    type Out = Printer<'a, HostRuntime>;
+
+    ghost fresh = { None };
+
+    fn next(&self) -> Printer<'a, HostRuntime> {
+        io::writer(self.rt)
+    }
+}
+
 fn main(rt: HostRuntime) -> Result<ExitCode> {
-    program_stores::run(&rt)
+    let outputs = StandardOutput { rt: &rt };
+    program_stores::run::<HostFiles, StandardOutput>(&rt, &outputs)
 }

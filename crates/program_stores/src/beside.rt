@@ -1,28 +1,34 @@
 // Reads the store at a path beside others, who may write it meanwhile, and says why another is refused.
-ghost use Rattle.read_only_disks.specs.Untouched.{IsUntouched};
+ghost use Rattle.std.specs.Prelude.{true, false, IfOk, IsTrue};
+ghost use Rattle.sqlite_wal.specs.Files.{image_at};
+ghost use Rattle.sqlite_wal.specs.Recovery.{Image};
+ghost use Rattle.files_to_read.specs.File.{IsFresh};
+ghost use Rattle.program_stores.specs.Opened.{IsStoreOf};
+ghost use Rattle.program_stores.specs.Theorem.{WasDone};
 
-use crate::reading::{LONGEST_LOG, PAGES_TO_READ, Unread, close, store_in_pages};
-use crate::running::tell_remarks;
+use crate::jobs::{Done, DoneInPages, Job, Outputs, done_over};
+use crate::reading::{PAGES_TO_READ, StoreInPages, Unread, files_beside, store_in};
+use crate::telling::tell_remarks;
 use files_to_read::{FileOf, IfStands, Standing, Unopened, open_to_look, open_to_read};
 use page_runs::PageRuns;
 use prof_store::OpenError;
-use read_only_disks::{ReadOnly, read_only};
 use requests::Command;
-use sessions::{WordsCommand, work_over};
-use sqlite_disk::{Disk, Files as DiskFiles, Start, Unknown};
+use sessions::WordsCommand;
+use sqlite_disk::{Disk, Files as DiskFiles, Start};
 use sqlite_pager::Options;
 use std::alloc::Global;
+use std::fs;
+use std::fs::File;
+use std::io::Read;
 use std::rt::HostRuntime;
-use std::{fs, io};
 use store_paths::{
-    Cause, NotOpened, Patience, TRIES, is_blank_in, is_migratable, is_no_file, options_for,
+    Cause, NotOpened, Openings, Patience, TRIES, is_blank_in, is_migratable, is_no_file,
+    options_for,
 };
 
-/// What commands came to over a store that others may write.
+/// Why commands are not done beside others, who may write the store.
 #[derive(Drop)]
 pub(crate) enum Beside {
-    /// Their answers, those of one commit, were printed, with this status, or could not be.
-    Done(io::Result<u8>),
     /// Others wrote while the store was read.
     Moved,
     /// The store is refused, and nothing of it was written.
@@ -32,9 +38,6 @@ pub(crate) enum Beside {
     /// Nothing is known of it: the commands change it, or the files are not to be read so.
     Unfit,
 }
-
-/// A store that others may write.
-type StoreBeside = PageRuns<ReadOnly<FileOf<Unknown>, Unknown>>;
 
 /// So often it is tried, even where that takes longer than patience lasts.
 const LEAST_TRIES: u32 = 3;
@@ -72,11 +75,14 @@ fn has_stood(rt: &HostRuntime, standing: &Standing) -> bool {
 
 /// Whether the database in files that are only read is to be migrated, as `is_migratable`. One that is not made yet, or
 /// was left half made, has no schema.
-fn is_to_be_migrated<D: Disk + Drop, S: Start>(
+fn is_to_be_migrated<D: Disk + Drop>(
     alloc: Global,
-    files: DiskFiles<ReadOnly<D, S>>,
+    files: DiskFiles<D>,
     options: Options,
-) -> Result<bool, NotOpened> {
+) -> Result<bool, NotOpened>
+    requires log { IsTrue (D.Disk.is_usable files.log) }
+    requires db { IsTrue (D.Disk.is_usable files.db) }
+{
     let mut files = files;
     if is_blank_in(alloc, &mut files)? {
         return Err(OpenError::WrongSchema.into());
@@ -84,22 +90,19 @@ fn is_to_be_migrated<D: Disk + Drop, S: Start>(
     is_migratable(alloc, files, options)
 }
 
-/// Why a store is refused that its pages refuse, by what its database says over files that others may write. `Unfit`
-/// where its log cannot be held in memory.
-fn refused_in<D: Disk + Drop, S: Start>(
+/// Why a store is refused that its pages refuse, by what its database says over files that are only read, which others may
+/// write.
+fn refused_in<D: Disk + Drop>(
     rt: &HostRuntime,
     files: DiskFiles<D>,
     options: Options,
-    standing: Standing,
+    standing: &Standing,
 ) -> Beside
-    requires log { IsUntouched D.Disk S.Start.log files.log }
-    requires db { IsUntouched D.Disk S.Start.db files.db }
+    requires log { IsTrue (D.Disk.is_usable files.log) }
+    requires db { IsTrue (D.Disk.is_usable files.db) }
 {
-    let Some(files) = read_only::<D, S>(rt.alloc(), files, LONGEST_LOG) else {
-        return Beside::Unfit;
-    };
     let found = is_to_be_migrated(rt.alloc(), files, options);
-    if !has_stood(rt, &standing) {
+    if !has_stood(rt, standing) {
         return Beside::Moved;
     }
     match found {
@@ -109,116 +112,165 @@ fn refused_in<D: Disk + Drop, S: Start>(
     }
 }
 
-/// The same of the store at a path.
-fn refused_at(rt: &HostRuntime, path: &str) -> Beside {
+/// The same of the store at a path. `Unfit` where its log cannot be held in memory.
+fn refused_at<S: Openings>(rt: &HostRuntime, path: &str) -> Beside {
     let Ok(options) = options_for(rt, PAGES_TO_READ) else {
         return Beside::Unfit;
     };
-    match open_to_read(rt, path, Unknown) {
-        Ok((files, standing)) => refused_in::<_, Unknown>(rt, files, options, standing),
-        Err(unopened) => beside_of(unopened),
+    let (files, standing) = match open_to_read(rt, path, S::next()) {
+        Ok(opened) => opened,
+        Err(unopened) => return beside_of(unopened),
+    };
+    match files_beside(rt.alloc(), files) {
+        Ok(files) => refused_in(rt, files, options, &standing),
+        Err(_) => Beside::Unfit,
     }
 }
 
 /// What comes of a store at a path that cannot be read beside others, where this was found.
-fn unread(rt: &HostRuntime, path: &str, standing: &Standing, why: Unread) -> Beside {
+fn unread<S: Openings>(rt: &HostRuntime, path: &str, standing: &Standing, why: Unread) -> Beside {
     match why {
         Unread::Memory => Beside::Refused(OpenError::Memory.into()),
         _ if !has_stood(rt, standing) => Beside::Moved,
         Unread::Unheld => Beside::Unfit,
-        Unread::Store => refused_at(rt, path),
+        Unread::Store => refused_at::<S>(rt, path),
     }
+}
+
+/// The store in files that were opened to be read beside others.
+fn store_beside_in<S: Start>(
+    alloc: Global,
+    files: DiskFiles<FileOf<S>>,
+    options: Options,
+) -> Result<StoreInPages<S>, Unread>
+    requires { IsFresh true files.log × IsFresh false files.db }
+    ensures { IfOk result (IsStoreOf (image_at S.Start)) }
+{
+    Ok(store_in(alloc, files_beside(alloc, files)?, options, 0)?)
 }
 
 /// The store at a path, to be read beside others, and what its files were; or what comes of it.
-fn store_beside(rt: &HostRuntime, path: &str) -> Result<(StoreBeside, Standing), Beside> {
+fn store_beside<S: Openings>(
+    rt: &HostRuntime,
+    path: &str,
+) -> Result<(StoreInPages<S>, Standing), Beside>
+    ensures { IfOk result (λ opened. IsStoreOf (image_at S.Start) opened.0) }
+{
     let Ok(options) = options_for(rt, PAGES_TO_READ) else {
         return Err(Beside::Unfit);
     };
-    let (files, standing) = match open_to_read(rt, path, Unknown) {
+    let (files, standing) = match open_to_read(rt, path, S::next()) {
         Ok(opened) => opened,
         Err(unopened) => return Err(beside_of(unopened)),
     };
-    match store_in_pages(rt.alloc(), files, options) {
-        Ok(store) if has_same_log(&standing) => Ok((store, standing)),
-        Ok(store) => {
-            close(store);
-            Err(Beside::Moved)
-        }
-        Err(why) => Err(unread(rt, path, &standing, why)),
+    let store = match store_beside_in(rt.alloc(), files, options) {
+        Ok(store) => store,
+        Err(why) => return Err(unread::<S>(rt, path, &standing, why)),
+    };
+    if has_same_log(&standing) {
+        Ok((store, standing))
+    } else {
+        // (a store that is let go by a call is faster to prove, here and below)
+        drop(store);
+        Err(Beside::Moved)
     }
 }
 
-/// Runs commands that only read over a store that was read beside others. What they came to was printed if what they had
-/// read stood still.
-fn work_over_pages<'a, D: Disk + Drop>(
+/// Does a job that only reads over a store that was read beside others, and prints what it comes to if what was read stood
+/// still: else nothing was printed.
+fn done_beside<'a, D: Disk + Drop, O: Outputs>(
     rt: &'a HostRuntime,
+    outputs: &O,
     store: PageRuns<D>,
     standing: Standing,
-    commands: &[WordsCommand<'a>],
-) -> Beside {
-    let out = IfStands::new(io::writer(rt), rt, standing);
+    job: Job<'_, 'a>,
+) -> Result<Done<D, O::Out>, Beside>
+    ensures { (image : Image) → IsStoreOf image store → IfOk result (WasDone ⟦<File as Read>⟧.remaining O.Out.contents image job.entry O.Outputs.fresh) }
+{
     let mut remarks = Vec::new(rt.alloc());
-    let (came_to, mut out, store) = work_over(rt, out, store, commands, &mut remarks);
-    close(store);
+    let out = IfStands::new(outputs.next(), rt, standing);
+    let Done {
+        came_to,
+        mut out,
+        store,
+    } = done_over(rt, out, store, job, &mut remarks);
     if out.has_stood() {
         tell_remarks(rt, &remarks);
-        Beside::Done(came_to)
+        Ok(Done {
+            came_to,
+            out: out.into_out(),
+            store,
+        })
     } else {
-        Beside::Moved
+        drop((out, store));
+        Err(Beside::Moved)
     }
 }
 
-/// Runs commands that only read over the store at a path, once. A file that is read without a log is locked for that.
-/// `work_over` says what is answered over what was read, `Standing` when that is what one commit left.
-fn work_once<'a>(rt: &'a HostRuntime, path: &str, commands: &[WordsCommand<'a>]) -> Beside {
-    match store_beside(rt, path) {
-        Ok((store, standing)) if standing.is_read_with_log() => {
-            work_over_pages(rt, store, standing, commands)
-        }
-        Ok((store, _standing)) => {
-            close(store);
-            Beside::Unfit
-        }
-        Err(came_to) => came_to,
-    }
-}
-
-/// Runs commands over the store at a path beside others, if they only read: no lock is taken, and nothing is made or
-/// changed. Where others write meanwhile, it begins anew, as long as patience lasts. No guarantee: of the files at a path
-/// the checker knows nothing.
-pub(crate) fn work_beside<'a>(
+/// Does a job that only reads over the store at a path, once. A file that is read without a log is locked for that.
+/// `Standing` says when what was read is what one commit left.
+fn done_once<'a, S: Openings, O: Outputs>(
     rt: &'a HostRuntime,
+    outputs: &O,
     path: &str,
-    commands: &[WordsCommand<'a>],
+    job: Job<'_, 'a>,
+) -> Result<DoneInPages<S, O::Out>, Beside>
+    ensures { IfOk result (WasDone ⟦<File as Read>⟧.remaining O.Out.contents (image_at S.Start) job.entry O.Outputs.fresh) }
+{
+    let (store, standing) = store_beside::<S>(rt, path)?;
+    if standing.is_read_with_log() {
+        done_beside(rt, outputs, store, standing, job)
+    } else {
+        drop(store);
+        Err(Beside::Unfit)
+    }
+}
+
+/// Whether a job may be done beside others: commands that only read. No guarantee: as `may_be_repeated`.
+fn may_be_beside(rt: &HostRuntime, job: Job<'_, '_>) -> bool {
+    match job {
+        Job::Run(commands) => commands.iter().all(|command| may_be_repeated(rt, command)),
+        Job::Serve(_) => false,
+    }
+}
+
+/// Does a job over the store at a path beside others, if it only reads: no lock is taken, and nothing is made or changed.
+/// Where others write meanwhile, it begins anew, as long as patience lasts. `S` says what the files held when it was done.
+pub(crate) fn work_beside<'a, S: Openings, O: Outputs>(
+    rt: &'a HostRuntime,
+    outputs: &O,
+    path: &str,
+    job: Job<'_, 'a>,
     patience: Patience,
-) -> Beside {
-    if is_no_file(path) || !commands.iter().all(|command| may_be_repeated(rt, command)) {
-        return Beside::Unfit;
+) -> Result<DoneInPages<S, O::Out>, Beside>
+    ensures { IfOk result (WasDone ⟦<File as Read>⟧.remaining O.Out.contents (image_at S.Start) job.entry O.Outputs.fresh) }
+{
+    if is_no_file(path) || !may_be_beside(rt, job) {
+        return Err(Beside::Unfit);
     }
     'tries: for turn in 0..TRIES {
-        match work_once(rt, path, commands) {
-            Beside::Moved if patience.is_left(rt) || turn < LEAST_TRIES => {}
+        match done_once(rt, outputs, path, job) {
+            Err(Beside::Moved) if patience.is_left(rt) || turn < LEAST_TRIES => {}
             // While another makes the files, or opens them, they may be so for a moment.
-            Beside::Unfit if turn == 0 => {}
+            Err(Beside::Unfit) if turn == 0 => {}
             came_to => return came_to,
         }
     }
-    Beside::Moved
+    Err(Beside::Moved)
 }
 
 /// Whether the pages of the store at a path say that it may be changed, whoever writes it meanwhile.
-fn may_be_changed_at(rt: &HostRuntime, path: &str) -> bool {
+fn may_be_changed_at<S: Openings>(rt: &HostRuntime, path: &str) -> bool {
     let (Ok(files), Ok(options)) = (
-        open_to_look(rt, path, Unknown),
+        open_to_look(rt, path, S::next()),
         options_for(rt, PAGES_TO_READ),
     ) else {
         return false;
     };
-    match store_in_pages::<_, Unknown>(rt.alloc(), files, options) {
+    match store_beside_in(rt.alloc(), files, options) {
         Ok(store) => {
             let may_be_changed = store.may_be_changed();
-            close(store);
+            drop(store);
             may_be_changed
         }
         Err(_) => false,
@@ -228,14 +280,14 @@ fn may_be_changed_at(rt: &HostRuntime, path: &str) -> bool {
 /// Refuses the store at a path that is not to be opened to be changed, for what it is: no lock is taken, and nothing is
 /// made or changed. The opening itself refuses what was not seen here: files that are not to be read beside others, or that
 /// others write. No guarantee: as `work_beside`.
-pub(crate) fn look_beside(rt: &HostRuntime, path: &str) -> Result<(), NotOpened> {
-    if is_no_file(path) || may_be_changed_at(rt, path) {
+pub(crate) fn look_beside<S: Openings>(rt: &HostRuntime, path: &str) -> Result<(), NotOpened> {
+    if is_no_file(path) || may_be_changed_at::<S>(rt, path) {
         return Ok(());
     }
-    match store_beside(rt, path) {
+    match store_beside::<S>(rt, path) {
         Ok((store, standing)) => {
             let may_be_changed = store.may_be_changed();
-            close(store);
+            drop(store);
             if may_be_changed || !has_stood(rt, &standing) {
                 Ok(())
             } else {

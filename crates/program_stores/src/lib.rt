@@ -4,10 +4,19 @@
 
 // Reads the store at a path beside others, who may write it meanwhile.
 mod beside;
-// Opens the store in files, or at a path, by its pages.
+// What is done over the store that is opened for it (specs/Jobs.antt).
+mod jobs;
+// Opens the store in files, or at a path, by its pages (specs/Opened.antt).
 mod reading;
 // What the words of a command line say is done.
 mod running;
+// What a person is told on a terminal.
+mod telling;
+// A job is done over the store at a path (specs/Theorem.antt).
+mod works;
 
-pub use reading::{StoreInPages, Unread, store_in_pages};
+pub use jobs::{Done, DoneInPages, Job, Outputs};
+pub use reading::{StoreFile, StoreInPages, store_in};
 pub use running::run;
+pub use store_paths::Openings;
+pub use works::work_at;

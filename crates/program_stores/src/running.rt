@@ -1,27 +1,24 @@
 // What the words of a command line say is done, over the files that they name.
-ghost use Rattle.std.specs.Prelude.{◌≡◌, ◌≤◌};
-ghost use Rattle.std.specs.List.{list_all};
-ghost use Rattle.program_stores.specs.Jobs as specs;
-ghost use Rattle.requests.specs.Plain.{only_reads};
 ghost use Rattle.sessions.specs.Commands.{HasCommands};
 
-use crate::beside::{Beside, look_beside, work_beside};
-use crate::reading::{StoreInPages, pages_at, pages_to_change_at};
+use crate::jobs::{DoneInPages, Job, Outputs};
+use crate::telling::tell_person;
+use crate::works::work_at;
 use anyhow::Result;
 use command_line::{Plan, PlanEnd, plan};
 use file_reading::{TotalText, total_read};
-use http_service::{Service, serve_over};
-use prof_store::OpenError;
+use http_service::Service;
+use page_runs::PageRuns;
 use profile_records::Kind;
-use run_stores::RunStore;
 use seen_files::{Beginning, Finding, SeenFile, fault_finding, finding_line, unread_finding};
-use sessions::{Remark, WordsCommand, commands_of, print_total, work_over};
+use sessions::{commands_of, print_total};
+use sqlite_disk::Disk;
 use std::alloc::AllocError;
-use std::io::{ErrorKind, IsTerminal};
+use std::io::ErrorKind;
 use std::process::ExitCode;
 use std::rt::HostRuntime;
 use std::{env, io};
-use store_paths::{NotOpened, Patience, cause_line, error_line, look_at, make_missing_at};
+use store_paths::{Cause, NotOpened, Openings, cause_line, error_line};
 
 /// Prints the line of a refusal. No guarantee: of what is printed the checker knows nothing.
 fn print_refused<R: Print>(rt: &R, reason: &str) -> io::Result<ExitCode> {
@@ -29,161 +26,26 @@ fn print_refused<R: Print>(rt: &R, reason: &str) -> io::Result<ExitCode> {
     Ok(ExitCode::FAILURE)
 }
 
-/// Tells a person what was found of a store or a file, on a terminal: a script, which has the standard error in a file or a pipe, sees
-/// nothing of it. What cannot be told is not. No guarantee: of what is printed the checker knows nothing.
-fn tell_person(rt: &HostRuntime, path: &str, found: &str) {
-    if rt.stderr().is_terminal() {
-        let _told = eprintln!(rt; "{path}: {found}");
-    }
+/// Closes a store. Whether a write to its files failed since the disk was full.
+fn has_met_full_disk<D: Disk + Drop>(store: PageRuns<D>) -> bool {
+    let files = store.into_file().close();
+    files.log.tally().refused > 0 || files.db.tally().refused > 0
 }
 
-/// Tells a person what was found of files. No guarantee: as `tell_person`.
-pub(crate) fn tell_remarks(rt: &HostRuntime, remarks: &[Remark<'_>]) {
-    for remark in remarks {
-        tell_person(rt, remark.path, finding_line(remark.finding));
-    }
-}
-
-/// Whether commands change nothing, whatever the store holds.
-fn only_read(commands: &[WordsCommand<'_>]) -> bool
-    ensures { result ≡ list_all only_reads commands.now }
-{
-    commands.iter().all(|command| command.only_reads())
-}
-
-/// What is done over the store at a path.
-#[derive(Clone, Copy)]
-enum Job<'c, 'a> {
-    Run(&'c [WordsCommand<'a>]),
-    Serve(Service),
-}
-
-impl<'a> Job<'_, 'a> {
-    /// Does it over a store. No guarantee: of what is printed the checker knows nothing; `work_over` and `serve_over` say what
-    /// it comes to.
-    fn over<S: RunStore>(self, rt: &'a HostRuntime, store: S) -> (io::Result<u8>, S) {
-        match self {
-            Job::Run(commands) => {
-                let mut remarks = Vec::new(rt.alloc());
-                let out = io::writer(rt);
-                let (came_to, _out, store) = work_over(rt, out, store, commands, &mut remarks);
-                tell_remarks(rt, &remarks);
-                (came_to, store)
-            }
-            Job::Serve(service) => serve_over(rt, store, service),
-        }
-    }
-
-    /// How many cells of small runs are kept in memory for it, 4 MB by a server.
-    fn cells_to_keep(&self) -> usize
-        ensures value { result ≡ specs.cells_to_keep self.now }
-        ensures few { result ≤ 65536 }
-    {
-        match self {
-            Job::Run(_) => 0,
-            Job::Serve(_) => 65_536,
-        }
-    }
-
-    /// Whether it changes nothing, whatever the store holds.
-    fn only_reads(&self) -> bool
-        ensures { result ≡ specs.changes_nothing self.now }
-    {
-        match self {
-            Job::Run(commands) => only_read(commands),
-            Job::Serve(_) => false,
-        }
-    }
-}
-
-/// The store at a path, to be changed with no other beside. What is not plainly ours is looked at in its database first,
-/// which migrates a store of version 1 and says what is wrong with others. No guarantee: which database is at a path the
-/// checker does not know.
-fn store_to_change_at(
+/// The status of what a job came to over the store at a path, or of one that was not opened: why is printed. No guarantee:
+/// `work_at` says what a job comes to.
+fn status_of<S: Openings, W: Drop>(
     rt: &HostRuntime,
     db: &str,
-    patience: Patience,
-    cells_to_keep: usize,
-) -> Result<StoreInPages, NotOpened> {
-    match pages_to_change_at(rt, db, patience, cells_to_keep) {
-        Err(
-            NotOpened {
-                end: OpenError::Store,
-                ..
-            },
-        ) => {}
-        opened => return opened,
-    }
-    look_at(rt, db, patience)?;
-    pages_to_change_at(rt, db, patience, cells_to_keep)
-}
-
-/// Does a job over the store at a path, with no other beside, and copies what was committed from the log into the file; where
-/// that fails, it stands in the log, and the next opening finds it there. No guarantee: as `work_at`.
-fn change_at<'a>(
-    rt: &'a HostRuntime,
-    db: &str,
-    patience: Patience,
-    job: Job<'_, 'a>,
-) -> Result<io::Result<u8>, NotOpened> {
-    let store = store_to_change_at(rt, db, patience, job.cells_to_keep())?;
-    let (came_to, mut store) = job.over(rt, store);
-    let _copied = store.checkpoint();
-    Ok(came_to)
-}
-
-/// Does a job over the store at a path, with no other beside: one that only reads over the files as they are, if their log
-/// is not long. A store that is to be refused is refused before anything of it is written, as far as `look_beside` sees it.
-/// No guarantee: as `work_at`.
-fn work_alone<'a>(
-    rt: &'a HostRuntime,
-    db: &str,
-    patience: Patience,
-    job: Job<'_, 'a>,
-) -> Result<io::Result<u8>, NotOpened> {
-    if job.only_reads() {
-        match pages_at(rt, db, patience) {
-            Ok(store) => return Ok(job.over(rt, store).0),
-            Err(refused) if refused.end == OpenError::Memory => return Err(refused),
-            Err(_) => {}
-        }
-    }
-    look_beside(rt, db)?;
-    change_at(rt, db, patience, job)
-}
-
-/// Does a job over the store at a path, which is made where there is none: one that only reads beside others, if it can
-/// be read so. No guarantee: which history the store at a path has, the checker does not know; `Session::run` says what is
-/// done over a store of any history, and which status comes of it.
-fn work_at<'a>(
-    rt: &'a HostRuntime,
-    db: &str,
-    job: Job<'_, 'a>,
-) -> Result<io::Result<u8>, NotOpened> {
-    let patience = Patience::begin(rt);
-    if make_missing_at(rt, db, patience)? {
-        tell_person(rt, db, "it is new");
-    }
-    if let Job::Run(commands) = job {
-        match work_beside(rt, db, commands, patience) {
-            Beside::Done(came_to) => return Ok(came_to),
-            Beside::Moved => return Err(OpenError::Store.into()),
-            Beside::Refused(refused) => return Err(refused),
-            Beside::First => return change_at(rt, db, patience, job),
-            Beside::Unfit => {}
-        }
-    }
-    work_alone(rt, db, patience, job)
-}
-
-/// The status of what a job came to, or of a store that was not opened: why is printed. No guarantee: as `work_at`.
-fn status_of(
-    rt: &HostRuntime,
-    db: &str,
-    came_to: Result<io::Result<u8>, NotOpened>,
+    came_to: Result<DoneInPages<S, W>, NotOpened>,
 ) -> io::Result<ExitCode> {
     match came_to {
-        Ok(status) => Ok(ExitCode::from(status?)),
+        Ok(done) => {
+            if has_met_full_disk(done.store) {
+                tell_person(rt, db, cause_line(Cause::DiskFull));
+            }
+            Ok(ExitCode::from(done.came_to?))
+        }
         Err(refused) => {
             println!(rt; "{}", error_line(refused.end))?;
             if let Some(cause) = refused.cause {
@@ -221,22 +83,37 @@ fn run_total(rt: &HostRuntime, path: &str) -> io::Result<ExitCode> {
     Ok(ExitCode::from(status))
 }
 
+/// Does a job over the store at a path, and prints why where none is opened. No guarantee: as `status_of`.
+fn run_job<'a, S: Openings, O: Outputs>(
+    rt: &'a HostRuntime,
+    outputs: &O,
+    db: &str,
+    job: Job<'_, 'a>,
+) -> io::Result<ExitCode> {
+    status_of(rt, db, work_at::<S, O>(rt, outputs, db, job))
+}
+
 /// Runs the commands of a plan that has such. No guarantee: as `run_plan`.
-fn run_commands<'a>(rt: &'a HostRuntime, plan: Plan<'a>) -> io::Result<ExitCode>
+fn run_commands<'a, S: Openings, O: Outputs>(
+    rt: &'a HostRuntime,
+    outputs: &O,
+    plan: Plan<'a>,
+) -> io::Result<ExitCode>
     requires { HasCommands plan }
 {
     match commands_of(rt.alloc(), plan) {
-        Ok((db, commands)) => {
-            let job = Job::Run(commands.as_slice());
-            status_of(rt, db, work_at(rt, db, job))
-        }
+        Ok((db, commands)) => { run_job::<S, O>(rt, outputs, db, Job::Run(commands.as_slice())) }
         Err(AllocError) => print_refused(rt, "out of memory"),
     }
 }
 
 /// Does what a plan says, and prints what it came to. No guarantee: which files stand at the paths of a plan
 /// the checker does not know; `commands_of`, `total_read` and `work_over` say what is made of them.
-fn run_plan<'a>(rt: &'a HostRuntime, plan: Plan<'a>) -> io::Result<ExitCode> {
+fn run_plan<'a, S: Openings, O: Outputs>(
+    rt: &'a HostRuntime,
+    outputs: &O,
+    plan: Plan<'a>,
+) -> io::Result<ExitCode> {
     match plan {
         Plan::Total { path } => run_total(rt, path),
         Plan::Serve {
@@ -252,9 +129,9 @@ fn run_plan<'a>(rt: &'a HostRuntime, plan: Plan<'a>) -> io::Result<ExitCode> {
                 most: most_bytes as usize,
                 log,
             };
-            status_of(rt, db, work_at(rt, db, Job::Serve(service)))
+            run_job::<S, O>(rt, outputs, db, Job::Serve(service))
         }
-        commands => run_commands(rt, commands),
+        commands => run_commands::<S, O>(rt, outputs, commands),
     }
 }
 
@@ -276,10 +153,10 @@ fn print_unplanned(rt: &HostRuntime, end: PlanEnd) -> io::Result<ExitCode> {
 }
 
 /// Does what the words that the program was started with say. No guarantee: as `run_plan`.
-pub fn run(rt: &HostRuntime) -> Result<ExitCode> {
+pub fn run<S: Openings, O: Outputs>(rt: &HostRuntime, outputs: &O) -> Result<ExitCode> {
     let words: Vec<String> = env::args(rt)?.collect(rt.alloc())?;
     let status = match plan(rt.alloc(), words.as_slice()) {
-        Ok(plan) => run_plan(rt, plan)?,
+        Ok(plan) => run_plan::<S, O>(rt, outputs, plan)?,
         Err(end) => print_unplanned(rt, end)?,
     };
     Ok(status)

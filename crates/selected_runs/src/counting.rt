@@ -41,12 +41,14 @@ fn count_run<S: RunStore>(
     ensures asks { Asks S.StoreState (is_ok result) store.old store.new }
 {
     let head = store.head_of(alloc, number)?;
-    let counts = head.derived.row(alloc, event)?;
+    let counts = head.derived.row(alloc, event);
     let events = head.events.len();
+    // A head that is alive at a way out costs the prover much.
+    drop(head);
     Ok(Counted {
         number,
         events,
-        counts,
+        counts: counts?,
     })
 }
 
@@ -72,9 +74,17 @@ impl<S: RunStore> RunFold<S> for EventCounts<'_> {
         number: &u32,
         runs: Vec<Counted>,
     ) -> Result<Vec<Counted>, StoreError> {
-        let run = count_run(store, self.alloc, *number, self.event)?;
+        // Runs that are alive at a way out cost the prover much.
+        let run = match count_run(store, self.alloc, *number, self.event) {
+            Ok(run) => run,
+            Err(end) => {
+                drop(runs);
+                return Err(end);
+            }
+        };
         let mut runs = runs;
         if runs.push(run).is_err() {
+            drop(runs);
             return Err(StoreError::Memory);
         }
         Ok(runs)

@@ -71,9 +71,14 @@ fn add_rows<S: RunStore>(
         (λ t all. AddsHeld t (AreRowsCounted t run.now.number counts.now) (sums_in parts) (sums_in all)) }
     ensures asks { AsksIfOpen S.StoreState (is_ok result) store.old store.new }
 {
-    match store.kind_of(run.number)? {
-        Kind::Callgrind => add_callgrind(store, alloc, run, counts, parts),
-        Kind::Folded => add_folded(store, run, counts, parts),
+    match store.kind_of(run.number) {
+        Ok(Kind::Callgrind) => add_callgrind(store, alloc, run, counts, parts),
+        Ok(Kind::Folded) => add_folded(store, run, counts, parts),
+        Err(end) => {
+            // Parts that are alive at a way out cost the prover much.
+            drop(parts);
+            Err(end)
+        }
     }
 }
 
@@ -148,7 +153,10 @@ fn text_of_parts<N: NameTable>(
     ensures { IfOk result (λ text. IsTextNamed (N.name_rows names.now) (sums_in parts.now) event.now text) }
 {
     let sums = parts.named(alloc, names)?;
-    Ok(text_of_sums(alloc, &sums, event, most)?)
+    let text = text_of_sums(alloc, &sums, event, most);
+    // Sums that are alive at a way out cost the prover much.
+    drop(sums);
+    Ok(text?)
 }
 
 /// The text of the inclusive costs of some runs: only the names of functions that it shows are asked for.
@@ -164,8 +172,18 @@ fn inclusive_text<S: RunStore>(
 {
     let adder = InclusiveOfRuns { alloc };
     let parts = fold_runs(store, &adder, runs, InclusiveParts::new(alloc))?;
-    let names = names_of_parts(store, alloc, &parts)?;
-    text_of_parts(alloc, &parts, &names, event, most)
+    // Parts that are alive at a way out cost the prover much.
+    match names_of_parts(store, alloc, &parts) {
+        Ok(names) => {
+            let text = text_of_parts(alloc, &parts, &names, event, most);
+            drop(parts);
+            text
+        }
+        Err(end) => {
+            drop(parts);
+            Err(end)
+        }
+    }
 }
 
 /// Answers what functions cost with all that they call, over the runs of a selection: a text, or the

@@ -97,11 +97,14 @@ fn annotated_text<S: RunStore>(
     let number = store.number_of(alloc, name)?;
     let lines = LinesOfRuns { name, number };
     let sums = fold_runs(store, &lines, runs, LineSums::new(alloc, name)?)?;
+    // Sums that are alive at a way out cost the prover much.
     if !sums.is_known() {
+        drop(sums);
         return Ok(None);
     }
-    let text = source_text(alloc, most, &sums, event, source)?;
-    Ok(Some(text))
+    let text = source_text(alloc, most, &sums, event, source);
+    drop(sums);
+    Ok(Some(text?))
 }
 
 /// Answers what the lines of a source cost in an event, by the name of its file in the runs of a selection:

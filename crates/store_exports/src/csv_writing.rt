@@ -1,9 +1,10 @@
 // The sums that are written as CSV, and the answers to questions of it.
-ghost use Rattle.std.specs.Prelude.{◌≡◌, length};
+ghost use Rattle.std.specs.Prelude.{◌≡◌, length, IfOk};
 ghost use Rattle.std.specs.List.{AllByRecursion};
 ghost use Rattle.std.specs.Result.{is_ok};
 ghost use Rattle.cg_formulas.specs.declared.heads.FileHead.{FileHead};
 ghost use Rattle.plain_tables.specs.RunRows.{cells_in};
+ghost use Rattle.report_texts.specs.Csv.{csv_text};
 ghost use Rattle.run_stores.specs.Calls.{Told, AsksIfOpen};
 ghost use Rattle.run_stores.specs.Walks.{IsOfAnEvent};
 ghost use Rattle.prof_books.specs.HeldHeads.{IsHeadIn};
@@ -20,7 +21,7 @@ use requests::Selection;
 use run_stores::{RunStore, StoreError};
 use selected_runs::{RunFold, fold_runs, select_runs};
 use shared_texts::SharedText;
-use std::alloc::Global;
+use std::alloc::{AllocError, Global};
 
 /// Adds the cells of a run, by the names of its events.
 fn add_run<S: RunStore>(
@@ -35,12 +36,26 @@ fn add_run<S: RunStore>(
         × AllByRecursion (IsOfAnEvent (length head.events)) (cells_in number t)) }
     ensures asks { AsksIfOpen S.StoreState (is_ok result) store.old store.new }
 {
-    let head = store.head_of(alloc, number)?;
+    // Sums that are alive at a way out cost the prover much, and so does a head.
+    let head = match store.head_of(alloc, number) {
+        Ok(head) => head,
+        Err(end) => {
+            drop(sums);
+            return Err(end);
+        }
+    };
     let events = head.events.as_slice();
     let rows = NamedRows { events, sums };
-    let all = each_named_cell(store, number, names, events.len(), rows)?;
-    let NamedRows { events: _, sums } = all;
-    Ok(sums)
+    match each_named_cell(store, number, names, events.len(), rows) {
+        Ok(NamedRows { events: _, sums }) => {
+            drop(head);
+            Ok(sums)
+        }
+        Err(end) => {
+            drop(head);
+            Err(end)
+        }
+    }
 }
 
 /// Adds runs to what places cost by the names of events, by the names that are held.
@@ -102,6 +117,16 @@ pub fn csv_sums<S: RunStore>(
     Ok(Ok(sums))
 }
 
+/// The text of some sums.
+fn text_of_sums(alloc: Global, most: usize, sums: CellSums) -> Result<SharedText, AllocError>
+    ensures { IfOk result (λ text. text ≡ csv_text sums) }
+{
+    let text = csv_text(alloc, most, &sums);
+    // Sums that are alive at a way out cost the prover much.
+    drop(sums);
+    Ok(SharedText::from_list(alloc, text?))
+}
+
 /// Answers the sums of `csv_sums`: a text of CSV, or the refusal. Errors: those of `csv_sums`. A text of more than `most`
 /// bytes is refused as one that there is no memory for.
 pub fn csv_answer<S: RunStore>(
@@ -114,8 +139,8 @@ pub fn csv_answer<S: RunStore>(
 {
     match csv_sums(store, alloc, selection)? {
         Ok(sums) => {
-            let text = csv_text(alloc, most, &sums)?;
-            Ok(Answer::Text(SharedText::from_list(alloc, text)))
+            let text = text_of_sums(alloc, most, sums)?;
+            Ok(Answer::Text(text))
         }
         Err(refusal) => Ok(Answer::Refused(refusal)),
     }

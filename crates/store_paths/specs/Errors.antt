@@ -34,7 +34,7 @@ host_cause kinds.PermissionDenied = Some causes.NoRight
 host_cause kinds.ReadOnlyFilesystem = Some causes.NoRight
 host_cause kinds.StorageFull = Some causes.DiskFull
 host_cause kinds.QuotaExceeded = Some causes.DiskFull
-host_cause kinds.IsADirectory = Some causes.NoDatabase
+host_cause kinds.IsADirectory = Some causes.Folder
 host_cause kind = None
 
 abbrev pub path_cause : path.OpenError → Option Cause
@@ -75,6 +75,7 @@ store_text ends.WrongSchema = codes "store: wrong schema"
 -- for a person
 abbrev pub cause_text : Cause → List ℕ
 cause_text causes.NoFolder = codes "there is no such folder"
+cause_text causes.Folder = codes "it is a folder"
 cause_text causes.NoRight = codes "no right to read or write it, its log or its folder"
 cause_text causes.InUse = codes "another command, a server or another program has it open"
 cause_text causes.Journal = codes "it has a journal of SQLite, or a second name: open it once with sqlite3"

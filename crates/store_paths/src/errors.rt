@@ -15,6 +15,8 @@ use std::io::ErrorKind;
 pub enum Cause {
     /// A folder of its path is not there.
     NoFolder,
+    /// It is a folder.
+    Folder,
     /// It, its log or its folder may not be read or written.
     NoRight,
     /// Another has it open.
@@ -106,7 +108,7 @@ fn cause_of_host(error: &io::Error) -> Option<Cause>
         ErrorKind::NotFound | ErrorKind::NotADirectory => Some(Cause::NoFolder),
         ErrorKind::PermissionDenied | ErrorKind::ReadOnlyFilesystem => Some(Cause::NoRight),
         ErrorKind::StorageFull | ErrorKind::QuotaExceeded => Some(Cause::DiskFull),
-        ErrorKind::IsADirectory => Some(Cause::NoDatabase),
+        ErrorKind::IsADirectory => Some(Cause::Folder),
         _ => None,
     }
 }
@@ -187,6 +189,7 @@ pub fn cause_line(cause: Cause) -> &'static str
 {
     match cause {
         Cause::NoFolder => "there is no such folder",
+        Cause::Folder => "it is a folder",
         Cause::NoRight => "no right to read or write it, its log or its folder",
         Cause::InUse => "another command, a server or another program has it open",
         Cause::Journal => {

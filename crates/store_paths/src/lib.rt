@@ -8,6 +8,8 @@ mod errors;
 mod naming;
 // The file of a new store, made in memory.
 mod new_stores;
+// What the files at a path hold each time they are opened.
+mod openings;
 // How long a command waits for others that have its store open.
 mod patience;
 // Says what a database is whose pages are refused, and writes nothing.
@@ -16,6 +18,7 @@ mod refusals;
 mod stores;
 
 pub use errors::{Cause, NotOpened, cause_line, error_line};
+pub use openings::Openings;
 pub use patience::{Patience, TRIES, files_at};
 pub use refusals::{is_blank_in, is_migratable};
 pub use stores::{is_no_file, look_at, make_missing_at, options_for, ready_in};

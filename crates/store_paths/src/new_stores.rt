@@ -6,7 +6,7 @@ ghost use Rattle.sqlite_disk.specs.Memory.{memory_bytes};
 ghost use Rattle.store_paths.specs.NewStores.{IsFileOf, IsNewStore};
 ghost use Rattle.store_paths.specs.Stores.{TakesUp};
 
-use crate::stores::ready_in;
+use crate::stores::ready_in_files;
 use sqlite::{Connection, FileStore};
 use sqlite_disk::{Files, Memory};
 use sqlite_pager::Options;
@@ -34,7 +34,7 @@ fn store_in_memory(
 ) -> Result<Connection<FileStore<Memory>>, AllocError>
     ensures { IfOk result (λ made. HasCleanDisk (file_state made) → TakesUp over_files true conn made) }
 {
-    match ready_in(alloc, conn, true) {
+    match ready_in_files(alloc, conn, true) {
         (Ok(()), conn) => Ok(conn),
         _ => Err(AllocError),
     }

@@ -9,7 +9,7 @@ ghost use Rattle.sqlite_wal.specs.Reads.{AreClean, OnlyReads};
 ghost use Rattle.store_paths.specs.Stores.{AsksForFirst, IsFoundIn, SaysFirst};
 
 use crate::errors::{NotOpened, error_of_open};
-use crate::stores::ready_in;
+use crate::stores::ready_in_files;
 use prof_store::OpenError;
 use sqlite::types::ValueRef;
 use sqlite::{Alter, Connection, Error, Row};
@@ -94,7 +94,7 @@ pub fn is_migratable<D: Disk + Drop>(
     if !is_first_in(&mut conn)? {
         return Ok(false);
     }
-    match ready_in(alloc, conn, false) {
+    match ready_in_files(alloc, conn, false) {
         (Ok(()), _) => Ok(true),
         (Err(end), _) => Err(end.into()),
     }

@@ -85,8 +85,11 @@ fn text_of_numbers<N: NameTable>(
 {
     let first = firsts.named(alloc, names)?;
     let second = seconds.named(alloc, names)?;
-    let text = text_of_sums(alloc, &first, &second, event, most)?;
-    Ok(text)
+    let text = text_of_sums(alloc, &first, &second, event, most);
+    // Sums that are alive at a way out cost the prover much.
+    drop(first);
+    drop(second);
+    Ok(text?)
 }
 
 /// The numbers of the names of two lists of sums.
@@ -103,6 +106,24 @@ fn numbers_of_both(
     Ok(numbers)
 }
 
+/// The text of what some sums are less others: the names of both are asked for.
+fn text_of_both<S: RunStore>(
+    store: &mut S,
+    alloc: Global,
+    firsts: &NumberSums,
+    seconds: &NumberSums,
+    event: &[u8],
+    most: usize,
+) -> Result<SharedText, StoreError>
+    ensures told { Told S.StoreState result store.old store.new (λ t text.
+        text ≡ difference_text event.now (difference_of firsts.now.key (named_sums t.names firsts.now) (named_sums t.names seconds.now))) }
+    ensures asks { AsksIfOpen S.StoreState (is_ok result) store.old store.new }
+{
+    let numbers = numbers_of_both(alloc, firsts, seconds)?;
+    let names = store.names_among(alloc, &numbers)?;
+    text_of_numbers(alloc, &names, firsts, seconds, event, most)
+}
+
 /// The text of the difference between some runs and others: only the names of their sums are asked for.
 fn difference_text<S: RunStore>(
     store: &mut S,
@@ -117,10 +138,19 @@ fn difference_text<S: RunStore>(
     ensures asks { AsksIfOpen S.StoreState (is_ok result) store.old store.new }
 {
     let first = number_runs(store, alloc, firsts, key)?;
-    let second = number_runs(store, alloc, seconds, key)?;
-    let numbers = numbers_of_both(alloc, &first, &second)?;
-    let names = store.names_among(alloc, &numbers)?;
-    text_of_numbers(alloc, &names, &first, &second, event, most)
+    match number_runs(store, alloc, seconds, key) {
+        Ok(second) => {
+            let text = text_of_both(store, alloc, &first, &second, event, most);
+            // Sums that are alive at a way out cost the prover much.
+            drop(first);
+            drop(second);
+            text
+        }
+        Err(end) => {
+            drop(first);
+            Err(end)
+        }
+    }
 }
 
 /// The answer over the runs of some numbers and those of others.

@@ -8,7 +8,8 @@ ghost use Rattle.report_texts.specs.KeyReports.{report_of};
 ghost use Rattle.report_texts.specs.KeyTexts.{key_report_text};
 ghost use Rattle.cost_reports.specs.Enough.{AreEnough};
 ghost use Rattle.prof_books.specs.Book.{IsHeld};
-ghost use Rattle.run_stores.specs.Calls.{AsksIfOpen, Told};
+ghost use Rattle.run_stores.specs.Calls.{Asks, AsksIfOpen, Told};
+ghost use Rattle.run_stores.specs.Names.{AreAmong};
 ghost use Rattle.number_sums.specs.Named.{named_sum};
 ghost use Rattle.number_sums.specs.Sums.{numbers_told};
 ghost use Rattle.requests.specs.Plain.{plain_selection};
@@ -38,17 +39,21 @@ fn shown_sums<S: RunStore>(
     ensures told { Told S.StoreState result store.old store.new (λ t shown. AreShown t cut sums shown) }
     ensures asks { AsksIfOpen S.StoreState (is_ok result) store.old store.new }
 {
-    let numbers = sums.numbers(alloc)?;
+    let numbers = sums.numbers(alloc);
     let mut shown = sums.ranked();
+    let numbers = numbers?;
     let count = shown.len();
     shown.keep_shown(cut);
     if shown.len() == count {
         return Ok(shown);
     }
-    if !store.holds_names(alloc, &numbers)? {
-        return Err(StoreError::Store);
+    let held = store.holds_names(alloc, &numbers);
+    drop(numbers);
+    if held? {
+        Ok(shown)
+    } else {
+        Err(StoreError::Store)
     }
-    Ok(shown)
 }
 
 /// The text of the report of sums that a cut can show, of which the names are given.
@@ -71,6 +76,20 @@ fn text_of_sums<N: NameTable>(
     Ok(text)
 }
 
+/// The names that some sums tell.
+fn names_of_shown<S: RunStore>(
+    store: &mut S,
+    alloc: Global,
+    shown: &RankedSums,
+) -> Result<S::Names, StoreError>
+    ensures told { Told S.StoreState result store.old store.new (λ t names.
+        AreAmong (numbers_told shown.now.key shown.now.sums) t.names (S.Names.name_rows names)) }
+    ensures asks { Asks S.StoreState (is_ok result) store.old store.new }
+{
+    let numbers = shown.numbers(alloc)?;
+    store.names_among(alloc, &numbers)
+}
+
 /// The text of the report over some runs: only the names of sums that a cut can show are asked for.
 fn report_text<S: RunStore>(
     store: &mut S,
@@ -86,8 +105,7 @@ fn report_text<S: RunStore>(
 {
     let sums = number_runs(store, alloc, runs, key)?;
     let shown = shown_sums(store, alloc, sums, cut)?;
-    let numbers = shown.numbers(alloc)?;
-    let names = store.names_among(alloc, &numbers)?;
+    let names = names_of_shown(store, alloc, &shown)?;
     text_of_sums(alloc, &shown, &names, event, cut, most)
 }
 

@@ -140,21 +140,26 @@ fn questions<'a>() -> [(Query<&'a [u8]>, usize); 11] {
     ]
 }
 
+/// Fails unless an answer is a text of so many lines.
+fn has_lines(alloc: Global, answer: Answer, lines: usize) -> Result<(), Fail> {
+    let Answer::Text(text) = answer else {
+        return Err("a question is refused")?;
+    };
+    let text = text.to_list(alloc)?;
+    let found = text
+        .as_slice()
+        .iter()
+        .filter(|byte| **byte == b'\n')
+        .count();
+    holds(found == lines, "another count of lines")
+}
+
 pub fn many_runs_and_rows_are_asked(alloc: Global) -> Result<(), Fail> {
     let mut conn = ample(alloc)?;
     for (query, lines) in questions() {
         let (answer, left) = answered(alloc, conn, Command::Ask(query))?;
         conn = left;
-        let Answer::Text(text) = answer else {
-            return Err("a question is refused")?;
-        };
-        let found = text
-            .to_list(alloc)?
-            .as_slice()
-            .iter()
-            .filter(|byte| **byte == b'\n')
-            .count();
-        holds(found == lines, "another count of lines")?;
+        has_lines(alloc, answer, lines)?;
     }
     Ok(())
 }

@@ -221,18 +221,40 @@ fn told_by(alloc: Global, conn: Held) -> Result<(Vec<u8>, Held), Fail> {
     Ok((told, conn))
 }
 
-pub fn rows_out_of_form_are_the_stores_fault(alloc: Global) -> Result<(), Fail> {
-    let (before, mut conn) = told_by(alloc, two_runs(alloc)?)?;
-    for (fault, asked, mend) in FAULTS {
-        execute(&mut conn, fault)?;
-        let (answer, left) = answered(alloc, conn, command_of(asked))?;
-        conn = left;
-        let Answer::Refused(Refusal::Store) = answer else {
-            return Err(fault)?;
-        };
-        execute(&mut conn, mend)?;
+/// Fails with a fault unless it is the store's.
+fn is_found(answer: Answer, fault: &'static str) -> Result<(), Fail> {
+    match answer {
+        Answer::Refused(Refusal::Store) => Ok(()),
+        _ => Err(fault)?,
     }
-    let (after, _conn) = told_by(alloc, conn)?;
+}
+
+/// A store that is at fault as long as rows are out of form.
+fn mended(
+    alloc: Global,
+    conn: Held,
+    (fault, asked, mend): (&'static str, Asked, &'static str),
+) -> Result<Held, Fail> {
+    let mut conn = conn;
+    execute(&mut conn, fault)?;
+    let (answer, mut conn) = answered(alloc, conn, command_of(asked))?;
+    is_found(answer, fault)?;
+    execute(&mut conn, mend)?;
+    Ok(conn)
+}
+
+/// A store, after all of that.
+fn all_mended(alloc: Global, conn: Held) -> Result<Held, Fail> {
+    let mut conn = conn;
+    for fault in FAULTS {
+        conn = mended(alloc, conn, fault)?;
+    }
+    Ok(conn)
+}
+
+pub fn rows_out_of_form_are_the_stores_fault(alloc: Global) -> Result<(), Fail> {
+    let (before, conn) = told_by(alloc, two_runs(alloc)?)?;
+    let (after, _conn) = told_by(alloc, all_mended(alloc, conn)?)?;
     holds(
         !before.is_empty() && before.as_slice() == after.as_slice(),
         "mended rows tell something else",

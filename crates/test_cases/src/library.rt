@@ -1,8 +1,10 @@
 // Public calls that a library's user has and the program does not make.
+ghost use Rattle.callgrind_reader.specs.Reads.{IsSpent, Takes};
+
 use crate::given::Given;
 use crate::holding::holds;
 use crate::stores::{StoreJob, done_over, empty};
-use callgrind_reader::Reader;
+use callgrind_reader::{Reader, Sink};
 use cg_formulas::{FileHead, Flat};
 use cg_text::{ListVec, fields};
 use cost_reports::verify;
@@ -105,16 +107,25 @@ fn are_of_calls(rows: &FileRows) -> bool {
         && calls.next().is_none()
 }
 
-fn rows_of(alloc: Global, text: &'static [u8]) -> Result<FileRows, Fail> {
-    let mut reader = Reader::new(alloc)?;
-    let mut rows = FileRows::new(alloc);
+/// Reads a text into a sink. (The sink is lent: what is dropped at each way out is slow to prove.)
+fn read_into<S: Sink>(reader: Reader, text: &'static [u8], sink: &mut S) -> Result<(), Fail>
+    requires { (IsSpent reader → ⊥) → Takes reader (S.last sink.old) (S.width sink.old) (S.known sink.old) }
+{
+    let mut reader = reader;
     if text.len() as u64 > reader.room() {
         return Err(Fail::from(AllocError));
     }
-    reader.feed(text, &mut rows)?;
-    if reader.finish(&mut rows).is_err() {
-        return Err(Fail::from(AllocError));
+    reader.feed(text, sink)?;
+    match reader.finish(sink) {
+        Ok(_) => Ok(()),
+        Err(_) => Err("a fault")?,
     }
+}
+
+fn rows_of(alloc: Global, text: &'static [u8]) -> Result<FileRows, Fail> {
+    let reader = Reader::new(alloc)?;
+    let mut rows = FileRows::new(alloc);
+    read_into(reader, text, &mut rows)?;
     Ok(rows)
 }
 

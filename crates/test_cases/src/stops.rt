@@ -82,6 +82,17 @@ fn done<S: Alter + Drop>(alloc: Global, conn: Connection<S>, step: Step) -> (boo
     }
 }
 
+/// Does a step over files: whether it is done, and the files behind it.
+fn done_in<D: Disk + Drop>(alloc: Global, files: Files<D>, step: Step) -> (bool, Files<D>) {
+    match opened(alloc, files) {
+        Ok(conn) => {
+            let (is_done, conn) = done(alloc, conn, step);
+            (is_done, closed(conn))
+        }
+        Err(files) => (false, files),
+    }
+}
+
 /// What a step comes to over files that stop.
 #[derive(Drop)]
 struct Ended {
@@ -101,13 +112,7 @@ fn ended_by(
     let meter = Meter::new(alloc, stops)?;
     meter.allow(changes);
     let files = files_of(alloc, &image.log, &image.database, 0, &meter)?;
-    let (is_done, files) = match opened(alloc, files) {
-        Ok(conn) => {
-            let (is_done, conn) = done(alloc, conn, step);
-            (is_done, closed(conn))
-        }
-        Err(files) => (false, files),
-    };
+    let (is_done, files) = done_in(alloc, files, step);
     Ok(Ended {
         is_done,
         has_stopped: meter.is_spent(),
@@ -183,13 +188,17 @@ fn told_in<S: Alter + Drop>(alloc: Global, conn: Connection<S>) -> Result<Vec<u8
 }
 
 /// The same of files.
-fn told_by(alloc: Global, log: &[u8], database: &[u8]) -> Result<Vec<u8>, Fail> {
-    let meter = Meter::new(alloc, Stops::Both)?;
-    let files = files_of(alloc, log, database, 0, &meter)?;
+fn told_in_files<D: Disk + Drop>(alloc: Global, files: Files<D>) -> Result<Vec<u8>, Fail> {
     match opened(alloc, files) {
         Ok(conn) => told_in(alloc, conn),
         Err(_) => Err("the files cannot be opened")?,
     }
+}
+
+fn told_by(alloc: Global, log: &[u8], database: &[u8]) -> Result<Vec<u8>, Fail> {
+    let meter = Meter::new(alloc, Stops::Both)?;
+    let files = files_of(alloc, log, database, 0, &meter)?;
+    told_in_files(alloc, files)
 }
 
 /// Whether what a stop left tells what it has to, by what was told before the step and is told with it.
@@ -256,10 +265,8 @@ fn making_stops(alloc: Global, stops: Stops) -> Result<Image, Fail> {
     Ok(made)
 }
 
-/// The files of a store of version 1 with what a store holds.
-fn as_first(alloc: Global, image: &Image) -> Result<Image, Fail> {
-    let meter = Meter::new(alloc, Stops::Both)?;
-    let files = files_of(alloc, &image.log, &image.database, 0, &meter)?;
+/// Makes a store of version 1 of one of version 2, in files.
+fn made_first<D: Disk + Drop>(alloc: Global, files: Files<D>) -> Result<Files<D>, Fail> {
     let mut conn = match opened(alloc, files) {
         Ok(conn) => conn,
         Err(_) => Err("the files cannot be opened")?,
@@ -269,7 +276,14 @@ fn as_first(alloc: Global, image: &Image) -> Result<Image, Fail> {
             Err("no store of version 1")?;
         }
     }
-    Ok(Left::of(closed(conn)).into_written())
+    Ok(closed(conn))
+}
+
+/// The files of a store of version 1 with what a store holds.
+fn as_first(alloc: Global, image: &Image) -> Result<Image, Fail> {
+    let meter = Meter::new(alloc, Stops::Both)?;
+    let files = files_of(alloc, &image.log, &image.database, 0, &meter)?;
+    Ok(Left::of(made_first(alloc, files)?).into_written())
 }
 
 /// Stops at each change of the opening of a store of version 1, which tells what it told before.

@@ -48,7 +48,12 @@ fn import_labelled<S: RunStore, R: Source>(
     ensures found { WasImported S.StoreState R.reads limits kind label.now source.old source.new result store.old store.new }
 {
     match parse_file(alloc, kind, limits.bytes, source) {
-        Ok(parsed) => answer_of(import_parsed(store, alloc, limits, kind, label, &parsed)),
+        Ok(parsed) => {
+            let imported = import_parsed(store, alloc, limits, kind, label, &parsed);
+            // (faster to prove than at the end)
+            drop(parsed);
+            answer_of(imported)
+        }
         Err(unread) => unread_answer(unread),
     }
 }

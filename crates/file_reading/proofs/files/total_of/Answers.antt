@@ -5,15 +5,15 @@ use Rattle.file_reading.proofs.files.total_of.Goals as goal
 
 pub finish-requires : goal.finish-requires
 finish-requires g c =
-    let was = c.in_ok-read_all.ensures in
+    let was = c.in-Ok.ensures in
     let took : HasTaken c.read_all.new.takes (bytes_of was.outcomes) = was.read.1 tt [] c.in_ok-total.ensures in took.ready
 
-pub returns : goal.returns
-returns g c =
-    let was = c.in_ok-read_all.ensures in
+pub returns-in_ok-finish-in-Ok : goal.returns-in_ok-finish-in-Ok
+returns-in_ok-finish-in-Ok g c =
+    let was = c.in-Ok.ensures in
     let took : HasTaken c.read_all.new.takes (bytes_of was.outcomes) = was.read.1 tt [] c.in_ok-total.ensures in
     record {
       outcomes = was.outcomes;
       came = was.came;
-      read = (was.read.0, c.in_ok-finish.ensures (bytes_of was.outcomes) took.sums);
+      read = (was.read.0, c.in_ok-finish-in-Ok.ensures (bytes_of was.outcomes) took.sums);
     }

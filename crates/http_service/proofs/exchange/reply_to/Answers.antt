@@ -14,8 +14,8 @@ use Rattle.http_service.proofs.exchange.reply_to.Goals as goal
 pub returns-in-Ok-clause-replied : goal.returns-in-Ok-clause-replied
 returns-in-Ok-clause-replied g c head is =
     let old = c.args.warehouse.now in
-    let new = c.fulfil.new.warehouse.store in
-    let done = c.fulfil.ensures.done in
+    let new = c.fulfil-replied.new.warehouse.store in
+    let done = c.fulfil-replied.ensures.done in
     let bytes = c.args.bytes.now in
     let len = c.args.spans.len in
     let after = drop len bytes in

@@ -1,10 +1,10 @@
-use Rattle.std.proofs.Common.{rules, ◌≡◌, ℕ, false, List, [], ◌∷◌, suc, ◌+◌, ◌<◌, ◌≤◌, ◌^◌, map, inr, refl, ap, subst, sym, ◌∙◌, arith}
+use Rattle.std.proofs.Common.{◌≡◌, ℕ, false, List, [], ◌∷◌, suc, ◌+◌, ◌<◌, map, inr, Err, refl, ap, subst, sym, ◌∙◌, arith}
+use Rattle.std.specs.Prelude.{⊤}
 use Rattle.std.specs.List.{AllByRecursion}
 use Rattle.std.proofs.lemmas.Result.{err_from_is_err_and}
 use Rattle.sqlite_pool.specs.StoredLaws.{Keeps-trans}
 use Rattle.sqlite_rules.proofs.ListLemmas.{has_got}
 use Rattle.sqlite_trees.proofs.ListLemmas.{all_weaker}
-use Rattle.page_places.proofs.Failing.{store_fails_later}
 use Rattle.plain_tables.specs.Changes.{has_run, with_coefs, with_derived, with_events, with_next, with_run}
 use Rattle.plain_tables.specs.Tables.{Tables, RunRow, EventRow, DerivedRow, CoefRow}
 use Rattle.store_schema.specs.Lines.{coef_row, derived_row, event_row, run_row}
@@ -16,7 +16,7 @@ use Rattle.run_lines.specs.Runs.{with_head_of}
 use Rattle.sqlite_trees.specs.Tree.{Trees}
 use Rattle.page_imports.specs.Needs.{CanAdd, CanBegin, CanFill}
 use Rattle.page_imports.specs.Steps.{KeepsOthers, head_tables}
-use Rattle.store_schema.specs.Tables.{Holds, meta_columns, event_columns, derived_columns, coef_columns}
+use Rattle.store_schema.specs.Tables.{Holds, meta_columns, run_columns, event_columns, derived_columns, coef_columns}
 use Rattle.store_schema.proofs.Sound.{sound_of}
 use Rattle.page_imports.specs.Causes.{CanBePut, CanBeWritten, CanPutHeadOf}
 use Rattle.page_imports.proofs.Carried.{put_still}
@@ -80,7 +80,19 @@ needs_coefs run head next es ds ks are t now holds can = (
   },
 )
 
--- the steps before leave the table of coefficients
+-- the steps before leave the tables of events, of derived events and of coefficients
+events_still : (run : RunLine) (head : HeadRows) (es : List EventRow) → es ≡ map event_row head.events.items → (t : Tables) (now next : Trees) → CanPutHeadOf run head now
+    → KeepsOthers (meta_at ∷ run_at ∷ []) now next → CanBePut run_event_at (map event_columns es) next
+events_still run head es are t now next fits kept =
+    put_still run_event_at (map event_columns es) now next (kept run_event_at (has_got schema_two.tables 2 run_event_at refl) refl)
+    (subst (λ l. CanBePut run_event_at (map event_columns l) now) (sym are) fits.events)
+
+derived_still : (run : RunLine) (head : HeadRows) (ds : List DerivedRow) → ds ≡ map derived_row head.derived.items → (t : Tables) (now next : Trees) → CanPutHeadOf run head now
+    → KeepsOthers (meta_at ∷ run_at ∷ run_event_at ∷ []) now next → CanBePut derived_at (map derived_columns ds) next
+derived_still run head ds are t now next fits kept =
+    put_still derived_at (map derived_columns ds) now next (kept derived_at (has_got schema_two.tables 3 derived_at refl) refl)
+    (subst (λ l. CanBePut derived_at (map derived_columns l) now) (sym are) fits.derived)
+
 coefs_still : (run : RunLine) (head : HeadRows) (ks : List CoefRow) → ks ≡ map coef_row head.coefs.items → (t : Tables) (now next : Trees) → CanPutHeadOf run head now
     → KeepsOthers (meta_at ∷ run_at ∷ run_event_at ∷ derived_at ∷ []) now next → CanBePut coef_at (map coef_columns ks) next
 coefs_still run head ks are t now next fits kept =
@@ -102,8 +114,7 @@ same_tables run head next es ds ks n e d k t =
 
 pub returns-in_default-clause-done : goal.returns-in_default-clause-done
 returns-in_default-clause-done g c clean = λ wanted known was t shows are can.
-    let great : 2 ^ 32 ≤ c.args.run.now.number + 1 = search rules in
-    inr (refl, λ (fits : CanPutHeadOf c.args.run.now c.args.head.now shows.next). omega (arith, great, fits.number))
+    inr (refl, λ (fits : CanPutHeadOf c.args.run.now c.args.head.now shows.next). c.in_default.ensures (omega (arith, fits.number)))
 
 pub returns-in_err-put_next-clause-done : goal.returns-in_err-put_next-clause-done
 returns-in_err-put_next-clause-done g c clean = λ wanted known was t shows are can.
@@ -113,7 +124,7 @@ returns-in_err-put_next-clause-done g c clean = λ wanted known was t shows are 
     let head = c.args.head.now in
     let n = run.number in
     let next = c.in-Some.next in
-    let more : next ≡ n + 1 = search rules in
+    let more : next ≡ n + 1 = c.in-Some.ensures.1 in
     let above = subst (λ m. AllByRecursion (λ (r : RunRow). r.number < m) t.runs) can.is_new.next shows.holds.below in
     let below_next = all_weaker (λ (r : RunRow). r.number < n) (λ (r : RunRow). r.number < next) (λ r low. omega (arith, low, more)) t.runs above in
     let one = c.in_err-put_next.ensures.done after_0 wanted known was t shows are below_next in
@@ -122,80 +133,59 @@ returns-in_err-put_next-clause-done g c clean = λ wanted known was t shows are 
     rw (p.1, p.2) (fails_for file c.put_next.new.file _ (λ (fits : CanPutHeadOf run head shows.next). subst (λ m. CanBeWritten meta_at (meta_columns m)) (sym suc_is) fits.next) one)
 
 pub returns-in_err-put_run_row-clause-done : goal.returns-in_err-put_run_row-clause-done
-returns-in_err-put_run_row-clause-done g c clean = λ wanted known was t shows are can.
-    let after_1 = clean in
-    let after_0 = c.put_run_row.ensures.keeps.stays.clean after_1 in
+returns-in_err-put_run_row-clause-done g c =
     let file = c.args.file.now in
+    let roots = c.args.roots.now in
     let run = c.args.run.now in
     let head = c.args.head.now in
     let n = run.number in
     let next = c.in-Some.next in
-    let more : next ≡ n + 1 = search rules in
-    let above = subst (λ m. AllByRecursion (λ (r : RunRow). r.number < m) t.runs) can.is_new.next shows.holds.below in
-    let below_next = all_weaker (λ (r : RunRow). r.number < n) (λ (r : RunRow). r.number < next) (λ r low. omega (arith, low, more)) t.runs above in
-    let one = c.in_ok-put_next.ensures.done after_0 wanted known was t shows are below_next in
-    let two = c.in_err-put_run_row.ensures.done after_1 wanted known was (with_next next t) one.shows are (record { low = omega (arith, more); above = above; none = can.is_new.none }) in
+    let more : next ≡ n + 1 = c.in-Some.ensures.1 in
     let p = err_from_is_err_and c.from_residual-in_err-put_run_row.result c.from_residual-in_err-put_run_row.ensures.1 in
-    rw (p.1, p.2) (store_fails_later file c.put_next.new.file c.put_run_row.new.file _ c.put_next.ensures.keeps (λ (fits : CanPutHeadOf run head shows.next). fits.row) two)
+    rw (p.1, p.2) (makes_then file c.put_next.new.file c.put_run_row.new.file roots (meta_at ∷ []) (run_at ∷ []) (IsAbove next) (CanAdd n run.digest.now) (CanBegin run head) (with_next next) (with_run (run_row run))
+    c.put_run_row.ensures.keeps.stays.clean (needs_row run head next more) c.in_ok-put_next.ensures.done
+    (λ _ _. CanBeWritten run_at (run_columns (run_row run))) (λ _. CanPutHeadOf run head) {B = ⊤} (Err _) c.put_next.ensures.keeps (λ t now then fits kept. fits.row) c.in_err-put_run_row.ensures.done)
 
 pub returns-in_err-put_events-clause-done : goal.returns-in_err-put_events-clause-done
-returns-in_err-put_events-clause-done g c clean = λ wanted known was t shows are can.
-    let after_2 = clean in
-    let after_1 = c.put_events.ensures.keeps.stays.clean after_2 in
-    let after_0 = c.put_run_row.ensures.keeps.stays.clean after_1 in
+returns-in_err-put_events-clause-done g c =
     let file = c.args.file.now in
+    let roots = c.args.roots.now in
     let run = c.args.run.now in
     let head = c.args.head.now in
     let n = run.number in
     let next = c.in-Some.next in
-    let more : next ≡ n + 1 = search rules in
-    let above = subst (λ m. AllByRecursion (λ (r : RunRow). r.number < m) t.runs) can.is_new.next shows.holds.below in
-    let below_next = all_weaker (λ (r : RunRow). r.number < n) (λ (r : RunRow). r.number < next) (λ r low. omega (arith, low, more)) t.runs above in
-    let new = above_is_new t n above in
-    let sound = sound_of t shows.next shows.holds in
-    let held = added_is_held t.runs (run_row run) in
-    let one = c.in_ok-put_next.ensures.done after_0 wanted known was t shows are below_next in
-    let two = c.in_ok-put_run_row.ensures.done after_1 wanted known was (with_next next t) one.shows are (record { low = omega (arith, more); above = above; none = can.is_new.none }) in
-    let events = with_events (map event_row c.deref.result.now) in
-    let events_of = subst (λ l. AllByRecursion (λ (e : EventRow). e.run ≡ n) (map event_row l)) (sym c.deref.ensures.value) can.lines.events_of in
-    let three = c.in_err-put_events.ensures.done n after_2 wanted known was (with_run (run_row run) (with_next next t)) two.shows are
-    (record { held = held; of_run = record { of_run = events_of; none = no_lines t n new (λ (e : EventRow). e.run) t.events sound.events } }) in
-    let same = two.kept run_event_at (has_got schema_two.tables 2 run_event_at refl) refl ∙ one.kept run_event_at (has_got schema_two.tables 2 run_event_at refl) refl in
+    let more : next ≡ n + 1 = c.in-Some.ensures.1 in
+    let es = map event_row c.deref.result.now in
+    let begun : Tables → Tables = λ t. with_run (run_row run) (with_next next t) in
+    let two = made_then file c.put_next.new.file c.put_run_row.new.file roots (meta_at ∷ []) (run_at ∷ []) (IsAbove next) (CanAdd n run.digest.now) (CanBegin run head) (with_next next) (with_run (run_row run))
+    c.put_run_row.ensures.keeps.stays.clean (needs_row run head next more) c.in_ok-put_next.ensures.done c.in_ok-put_run_row.ensures.done in
     let p = err_from_is_err_and c.from_residual-in_err-put_events.result c.from_residual-in_err-put_events.ensures.1 in
-    rw (p.1, p.2) (store_fails_later file c.put_run_row.new.file c.put_events.new.file _ ((Keeps-trans _ _ _ c.put_next.ensures.keeps c.put_run_row.ensures.keeps))
-    (λ (fits : CanPutHeadOf run head shows.next). put_still run_event_at _ shows.next two.shows.next same (subst (λ l. CanBePut run_event_at (map event_columns (map event_row l)) shows.next) (sym c.deref.ensures.value) fits.events)) three)
+    rw (p.1, p.2) (makes_then file c.put_run_row.new.file c.put_events.new.file roots (meta_at ∷ run_at ∷ []) (run_event_at ∷ []) (CanBegin run head) (CanFill (λ t. t.events) (λ line. line.run) n es) (CanBegin run head) begun (with_events es)
+    c.put_events.ensures.keeps.stays.clean (needs_events run head next es (ap (map event_row) c.deref.ensures.value)) two
+    (λ _. CanBePut run_event_at (map event_columns es)) (λ _. CanPutHeadOf run head) {B = ⊤} (Err _) (Keeps-trans _ _ _ c.put_next.ensures.keeps c.put_run_row.ensures.keeps)
+    (events_still run head es (ap (map event_row) c.deref.ensures.value)) (c.in_err-put_events.ensures.done n))
 
 pub returns-in_err-put_derived-clause-done : goal.returns-in_err-put_derived-clause-done
-returns-in_err-put_derived-clause-done g c clean = λ wanted known was t shows are can.
-    let after_3 = clean in
-    let after_2 = c.put_derived.ensures.keeps.stays.clean after_3 in
-    let after_1 = c.put_events.ensures.keeps.stays.clean after_2 in
-    let after_0 = c.put_run_row.ensures.keeps.stays.clean after_1 in
+returns-in_err-put_derived-clause-done g c =
     let file = c.args.file.now in
+    let roots = c.args.roots.now in
     let run = c.args.run.now in
     let head = c.args.head.now in
     let n = run.number in
     let next = c.in-Some.next in
-    let more : next ≡ n + 1 = search rules in
-    let above = subst (λ m. AllByRecursion (λ (r : RunRow). r.number < m) t.runs) can.is_new.next shows.holds.below in
-    let below_next = all_weaker (λ (r : RunRow). r.number < n) (λ (r : RunRow). r.number < next) (λ r low. omega (arith, low, more)) t.runs above in
-    let new = above_is_new t n above in
-    let sound = sound_of t shows.next shows.holds in
-    let held = added_is_held t.runs (run_row run) in
-    let one = c.in_ok-put_next.ensures.done after_0 wanted known was t shows are below_next in
-    let two = c.in_ok-put_run_row.ensures.done after_1 wanted known was (with_next next t) one.shows are (record { low = omega (arith, more); above = above; none = can.is_new.none }) in
-    let events = with_events (map event_row c.deref.result.now) in
-    let events_of = subst (λ l. AllByRecursion (λ (e : EventRow). e.run ≡ n) (map event_row l)) (sym c.deref.ensures.value) can.lines.events_of in
-    let three = c.in_ok-put_events.ensures.done n after_2 wanted known was (with_run (run_row run) (with_next next t)) two.shows are
-    (record { held = held; of_run = record { of_run = events_of; none = no_lines t n new (λ (e : EventRow). e.run) t.events sound.events } }) in
-    let derived = with_derived (map derived_row c.deref-2.result.now) in
-    let derived_of = subst (λ l. AllByRecursion (λ (d : DerivedRow). d.run ≡ n) (map derived_row l)) (sym c.deref-2.ensures.value) can.lines.derived_of in
-    let four = c.in_err-put_derived.ensures.done n after_3 wanted known was (events (with_run (run_row run) (with_next next t))) three.shows are
-    (record { held = held; of_run = record { of_run = derived_of; none = no_lines t n new (λ (d : DerivedRow). d.run) t.derived sound.derived } }) in
-    let same = three.kept derived_at (has_got schema_two.tables 3 derived_at refl) refl ∙ two.kept derived_at (has_got schema_two.tables 3 derived_at refl) refl ∙ one.kept derived_at (has_got schema_two.tables 3 derived_at refl) refl in
+    let more : next ≡ n + 1 = c.in-Some.ensures.1 in
+    let es = map event_row c.deref.result.now in
+    let begun : Tables → Tables = λ t. with_run (run_row run) (with_next next t) in
+    let ds = map derived_row c.deref-2.result.now in
+    let two = made_then file c.put_next.new.file c.put_run_row.new.file roots (meta_at ∷ []) (run_at ∷ []) (IsAbove next) (CanAdd n run.digest.now) (CanBegin run head) (with_next next) (with_run (run_row run))
+    c.put_run_row.ensures.keeps.stays.clean (needs_row run head next more) c.in_ok-put_next.ensures.done c.in_ok-put_run_row.ensures.done in
+    let three = made_then file c.put_run_row.new.file c.put_events.new.file roots (meta_at ∷ run_at ∷ []) (run_event_at ∷ []) (CanBegin run head) (CanFill (λ t. t.events) (λ line. line.run) n es) (CanBegin run head) begun (with_events es)
+    c.put_events.ensures.keeps.stays.clean (needs_events run head next es (ap (map event_row) c.deref.ensures.value)) two (c.in_ok-put_events.ensures.done n) in
     let p = err_from_is_err_and c.from_residual-in_err-put_derived.result c.from_residual-in_err-put_derived.ensures.1 in
-    rw (p.1, p.2) (store_fails_later file c.put_events.new.file c.put_derived.new.file _ ((Keeps-trans _ _ _ (Keeps-trans _ _ _ c.put_next.ensures.keeps c.put_run_row.ensures.keeps) c.put_events.ensures.keeps))
-    (λ (fits : CanPutHeadOf run head shows.next). put_still derived_at _ shows.next three.shows.next same (subst (λ l. CanBePut derived_at (map derived_columns (map derived_row l)) shows.next) (sym c.deref-2.ensures.value) fits.derived)) four)
+    rw (p.1, p.2) (makes_then file c.put_events.new.file c.put_derived.new.file roots (meta_at ∷ run_at ∷ run_event_at ∷ []) (derived_at ∷ []) (CanBegin run head) (CanFill (λ t. t.derived) (λ line. line.run) n ds) (CanBegin run head)
+    (λ t. with_events es (begun t)) (with_derived ds) c.put_derived.ensures.keeps.stays.clean (needs_derived run head next es ds (ap (map derived_row) c.deref-2.ensures.value)) three
+    (λ _. CanBePut derived_at (map derived_columns ds)) (λ _. CanPutHeadOf run head) {B = ⊤} (Err _) (Keeps-trans _ _ _ (Keeps-trans _ _ _ c.put_next.ensures.keeps c.put_run_row.ensures.keeps) c.put_events.ensures.keeps)
+    (derived_still run head ds (ap (map derived_row) c.deref-2.ensures.value)) (c.in_err-put_derived.ensures.done n))
 
 pub returns-clause-done : goal.returns-clause-done
 returns-clause-done g c =
@@ -205,7 +195,7 @@ returns-clause-done g c =
     let head = c.args.head.now in
     let n = run.number in
     let next = c.in-Some.next in
-    let more : next ≡ n + 1 = search rules in
+    let more : next ≡ n + 1 = c.in-Some.ensures.1 in
     let suc_is : next ≡ suc n = omega (arith, more) in
     let es = map event_row c.deref.result.now in
     let ds = map derived_row c.deref-2.result.now in

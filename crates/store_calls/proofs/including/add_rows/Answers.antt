@@ -4,16 +4,16 @@ use Rattle.store_histories.proofs.Questions.{if_ok_so}
 use Rattle.store_calls.proofs.InclusiveLemmas.{kind_added}
 use Rattle.store_calls.proofs.including.add_rows.Goals as goal
 
-pub returns-in-Callgrind-clause-told : goal.returns-in-Callgrind-clause-told
-returns-in-Callgrind-clause-told g c clean t represents =
+pub returns-in-Ok-Callgrind-clause-told : goal.returns-in-Ok-Callgrind-clause-told
+returns-in-Ok-Callgrind-clause-told g c clean t represents =
     let early = (c.add_callgrind.ensures.asks clean).stays.was_faithful in
-    let mid = asked_reads g.S.StoreState t _ _ (c.in_ok-kind_of.ensures.asks early) represents in
-    if_ok_so c.add_callgrind.result (λ all told. kind_added t c.args.run.now.number c.args.counts.now _ Callgrind _ _ (c.in_ok-kind_of.ensures.told early t represents) c.in-Callgrind.is told)
+    let mid = asked_reads g.S.StoreState t _ _ (c.in-Ok-Callgrind.ensures.asks early) represents in
+    if_ok_so c.add_callgrind.result (λ all told. kind_added t c.args.run.now.number c.args.counts.now _ Callgrind _ _ (c.in-Ok-Callgrind.ensures.told early t represents) c.in-Ok-Callgrind.field-0-is told)
     (c.add_callgrind.ensures.told clean t mid)
 
-pub returns-in-Folded-clause-told : goal.returns-in-Folded-clause-told
-returns-in-Folded-clause-told g c clean t represents =
+pub returns-in-Ok-Folded-clause-told : goal.returns-in-Ok-Folded-clause-told
+returns-in-Ok-Folded-clause-told g c clean t represents =
     let early = (c.add_folded.ensures.asks clean).stays.was_faithful in
-    let mid = asked_reads g.S.StoreState t _ _ (c.in_ok-kind_of.ensures.asks early) represents in
-    if_ok_so c.add_folded.result (λ all told. kind_added t c.args.run.now.number c.args.counts.now _ Folded _ _ (c.in_ok-kind_of.ensures.told early t represents) c.in-Folded.is told)
+    let mid = asked_reads g.S.StoreState t _ _ (c.in-Ok-Folded.ensures.asks early) represents in
+    if_ok_so c.add_folded.result (λ all told. kind_added t c.args.run.now.number c.args.counts.now _ Folded _ _ (c.in-Ok-Folded.ensures.told early t represents) c.in-Ok-Folded.field-0-is told)
     (c.add_folded.ensures.told clean t mid)

@@ -6,15 +6,15 @@ use Rattle.store_calls.specs.InclusiveRuns.{AddsHeld, AreRowsOfRuns}
 use Rattle.store_calls.proofs.InclusiveLemmas.{rows_added, text_told}
 use Rattle.store_calls.proofs.including.inclusive_text.Goals as goal
 
-pub returns-clause-told : goal.returns-clause-told
-returns-clause-told g c clean t represents =
+pub returns-in-Ok-clause-told : goal.returns-in-Ok-clause-told
+returns-in-Ok-clause-told g c clean t represents =
     let runs = c.args.runs.now in
     let event = c.args.event.now in
     let all : PartSums = sums_in c.in_ok-parts.parts in
-    let early = (c.in_ok-names.ensures.asks clean).stays.was_faithful in
+    let early = (c.in-Ok.ensures.asks clean).stays.was_faithful in
     let mid = asked_reads_yet g.S.StoreState t _ _ (c.in_ok-parts.ensures.asks early) represents in
     let added : AddsHeld t (AreRowsOfRuns t runs) (sums_in c.new.result) all = rows_added t runs _ _ (c.in_ok-parts.ensures.told early t represents) in
-    if_ok_so c.text_of_parts.result (λ text is.
-    text_told t runs all (g.S.Names.NameTable.name_rows c.in_ok-names.names) event text (g.S.StoreState.apart t _ represents) (subst (λ (s : PartSums). AddsHeld t (AreRowsOfRuns t runs) s all) c.new.ensures added)
-    (c.in_ok-names.ensures.told clean t mid) is)
-    c.text_of_parts.ensures
+    if_ok_so c.text_of_parts-text.result (λ text is.
+    text_told t runs all (g.S.Names.NameTable.name_rows c.in-Ok.names) event text (g.S.StoreState.apart t _ represents) (subst (λ (s : PartSums). AddsHeld t (AreRowsOfRuns t runs) s all) c.new.ensures added)
+    (c.in-Ok.ensures.told clean t mid) is)
+    c.text_of_parts-text.ensures

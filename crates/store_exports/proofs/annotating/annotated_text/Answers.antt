@@ -17,4 +17,4 @@ returns-clause-told g c clean t represents =
     let early = (c.in_ok-sums.ensures.asks clean).stays.was_faithful in
     let mid = asked_reads g.S.StoreState t _ _ (c.in_ok-number.ensures.asks early) represents in
     let lines = lines_from_runs t c.args.name.now c.in_ok-number.number (g.S.StoreState.apart t _ represents) some (c.in_ok-number.ensures.told early t represents) c.args.runs.now _ _ c.in_ok-new.ensures (c.in_ok-sums.ensures.told clean t mid) in
-    text_found t c.args.event.now c.args.name.now c.args.source.now c.args.runs.now c.in_ok-sums.sums c.in_ok-text.text lines (sym c.is_known.ensures ∙ c.if-not-is_known.false) c.in_ok-text.ensures.text
+    text_found t c.args.event.now c.args.name.now c.args.source.now c.args.runs.now c.in_ok-sums.sums c.in_ok-text.field-0 lines (sym c.is_known.ensures ∙ c.if-not-is_known.false) c.in_ok-text.ensures.text

@@ -21,8 +21,8 @@ returns-in-Ok-default g c =
     record {
       old = c.in-Ok.conn;
       asked = c.is_first_in.new.conn;
-      new = c.ready_in.result.1;
+      new = c.ready_in_files.result.1;
       finds = c.in-Ok.ensures.found;
       asks = λ clean. subst (AsksForFirst (file_state c.in-Ok.conn) (file_state c.is_first_in.new.conn)) (c.in_ok-is_first_in.was ∙ ap (λ b. Ok b) is) (c.is_first_in.ensures clean);
-      brought_up = λ yes clean. subst (λ r. IsReadyIn over_files false r c.is_first_in.new.conn c.ready_in.result.1) c.in-Ok-default.is-0 (c.ready_in.ensures clean);
+      brought_up = λ yes clean. subst (λ r. IsReadyIn over_files false r c.is_first_in.new.conn c.ready_in_files.result.1) c.in-Ok-default.is-0 (c.ready_in_files.ensures clean);
     }

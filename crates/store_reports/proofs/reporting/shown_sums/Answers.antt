@@ -26,13 +26,13 @@ returns-then-len-count-clause-told g c clean t reads =
       held = held_of_all t.names c.args.sums.key c.args.cut ranked c.args.sums.sums c.keep_shown.new.self.sums moved enough many;
     }
 
-pub returns-clause-told : goal.returns-clause-told
-returns-clause-told g c clean t reads =
+pub returns-then-branch-clause-told : goal.returns-then-branch-clause-told
+returns-then-branch-clause-told g c clean t reads =
     let ranked = c.ranked-shown.result.sums in
     let moved : IsPermutation ranked c.args.sums.sums = c.ranked-shown.ensures.sums in
     let total : c.ranked-shown.result.total ≡ numbers_total c.args.sums.sums = c.ranked-shown.ensures.total in
     let whole : numbers_total ranked ≡ c.ranked-shown.result.total = sym (total_moved ranked c.args.sums.sums moved) ∙ sym total in
-    let held = (c.in_ok-holds_names.ensures.told clean t reads).0 c.if-not-branch.false in
+    let held = (c.in_ok-held.ensures.told clean t reads).0 c.if-branch.true in
     record {
       key = c.keep_shown.ensures.key ∙ c.ranked-shown.ensures.key;
       total = c.keep_shown.ensures.total ∙ total;

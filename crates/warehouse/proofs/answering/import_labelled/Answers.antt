@@ -21,19 +21,19 @@ returns-in-Ok g c = record {
         outcomes = read.outcomes;
         came = read.came;
         answers = λ clean.
-            let stepped = c.import_parsed.ensures.steps read.outcomes read.read.0 read.read.1 clean in
-            subst (λ a. Answers g.S.StoreState limits command a c.args.store.now c.import_parsed.new.store) (sym c.answer_of.ensures) (record {
-              stepped = steps_answer g.S.StoreState limits command c.import_parsed.result _ _ stepped;
-              answered = λ h has. settled g.S.StoreState limits h command c.args.store.now c.import_parsed.new.store has c.import_parsed.result (c.utf8.label, c.requires) (λ s. c.import_parsed.ensures.answered clean h read.outcomes s read.read.0 read.read.1) stepped;
-              closes = closes_for g.S.StoreState c.import_parsed.result _ _ stepped.stays;
-              shut = c.import_parsed.ensures.shut clean;
+            let stepped = c.import_parsed-imported.ensures.steps read.outcomes read.read.0 read.read.1 clean in
+            subst (λ a. Answers g.S.StoreState limits command a c.args.store.now c.import_parsed-imported.new.store) (sym c.answer_of.ensures) (record {
+              stepped = steps_answer g.S.StoreState limits command c.import_parsed-imported.result _ _ stepped;
+              answered = λ h has. settled g.S.StoreState limits h command c.args.store.now c.import_parsed-imported.new.store has c.import_parsed-imported.result (c.utf8.label, c.requires) (λ s. c.import_parsed-imported.ensures.answered clean h read.outcomes s read.read.0 read.read.1) stepped;
+              closes = closes_for g.S.StoreState c.import_parsed-imported.result _ _ stepped.stays;
+              shut = c.import_parsed-imported.ensures.shut clean;
             });
       };
   found =
       let read = c.in-Ok.ensures in
       let says = IsImported c.args.limits c.args.kind c.args.label.now c.in-Ok.parsed in
-      let changed = subst (λ a. WasChangedIn g.S.StoreState says a c.args.store.now c.import_parsed.new.store) (sym c.answer_of.ensures)
-      (record { told = λ clean t was. or_failed _ c.import_parsed.result (c.import_parsed.ensures.told clean t was); made = λ clean t represents. or_failed _ c.import_parsed.result (c.import_parsed.ensures.made clean t represents) }) in
+      let changed = subst (λ a. WasChangedIn g.S.StoreState says a c.args.store.now c.import_parsed-imported.new.store) (sym c.answer_of.ensures)
+      (record { told = λ clean t was. or_failed _ c.import_parsed-imported.result (c.import_parsed-imported.ensures.told clean t was); made = λ clean t represents. or_failed _ c.import_parsed-imported.result (c.import_parsed-imported.ensures.made clean t represents) }) in
       record {
         outcomes = read.outcomes;
         came = read.came;

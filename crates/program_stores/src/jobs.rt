@@ -1,0 +1,121 @@
+// What is done over the store that is opened for it.
+ghost use Rattle.std.specs.Prelude.{◌≡◌, ◌≤◌, ℕ, List, Option};
+ghost use Rattle.std.specs.List.{list_all};
+ghost use Rattle.sqlite_wal.specs.Recovery.{Image};
+ghost use Rattle.run_stores.specs.Calls.{IsFaithful};
+ghost use Rattle.program_stores.specs.Jobs as specs;
+ghost use Rattle.program_stores.specs.Jobs.{Tells};
+ghost use Rattle.program_stores.specs.Opened.{IsStoreOf};
+ghost use Rattle.program_stores.specs.Theorem.{WasDone};
+ghost use Rattle.requests.specs.Plain.{only_reads};
+ghost use Rattle.warehouse.specs.Taken.{CameTo};
+
+use crate::reading::StoreFile;
+use http_service::{Service, serve_over};
+use page_runs::PageRuns;
+use run_stores::RunStore;
+use sessions::{Remark, WordsCommand, work_over};
+use sqlite_disk::Disk;
+use std::fs::File;
+use std::io;
+use std::io::{Read, Write};
+use std::rt::HostRuntime;
+
+/// Where a command prints: one for each time that it is tried.
+pub trait Outputs {
+    type Out: Write + Drop;
+
+    /// What stands in one that is new, where that is known.
+    ghost fresh: { Option (List ℕ) };
+
+    /// One more.
+    fn next(&self) -> Self::Out
+        ensures { Self.Out.contents result ≡ fresh };
+}
+
+/// Whether commands change nothing, whatever the store holds.
+fn only_read(commands: &[WordsCommand<'_>]) -> bool
+    ensures { result ≡ list_all only_reads commands.now }
+{
+    commands.iter().all(|command| command.only_reads())
+}
+
+/// What is done over the store at a path.
+#[derive(Clone, Copy)]
+pub enum Job<'c, 'a> {
+    Run(&'c [WordsCommand<'a>]),
+    Serve(Service),
+}
+
+impl<'a> Job<'_, 'a> {
+    /// Does it over a store, of which there was read what `T` says. What was found of files is kept beside.
+    fn over<W: Write + Drop, T: RunStore>(
+        self,
+        rt: &'a HostRuntime,
+        out: W,
+        store: T,
+        remarks: &mut Vec<Remark<'a>>,
+    ) -> (io::Result<u8>, W, T)
+        ensures { IsFaithful T.StoreState result.2
+            → CameTo T.StoreState (Tells ⟦<File as Read>⟧.remaining W.contents T.StoreState self.entry (W.contents out) result.0 result.1) store result.2 }
+    {
+        match self {
+            Job::Run(commands) => work_over(rt, out, store, commands, remarks),
+            Job::Serve(service) => {
+                let (came_to, store) = serve_over(rt, store, service);
+                (came_to, out, store)
+            }
+        }
+    }
+
+    /// How many cells of small runs are kept in memory for it, 4 MB by a server.
+    pub(crate) fn cells_to_keep(&self) -> usize
+        ensures value { result ≡ specs.cells_to_keep self.now }
+        ensures few { result ≤ 65536 }
+    {
+        match self {
+            Job::Run(_) => 0,
+            Job::Serve(_) => 65_536,
+        }
+    }
+
+    /// Whether it changes nothing, whatever the store holds.
+    pub(crate) fn only_reads(&self) -> bool
+        ensures { result ≡ specs.changes_nothing self.now }
+    {
+        match self {
+            Job::Run(commands) => only_read(commands),
+            Job::Serve(_) => false,
+        }
+    }
+}
+
+/// What a job came to.
+#[derive(Drop)]
+pub struct Done<D: Disk, W: Drop> {
+    /// Its status, or why what it prints was not printed whole.
+    pub came_to: io::Result<u8>,
+    pub out: W,
+    pub store: PageRuns<D>,
+}
+
+/// The same over the files at a path.
+pub type DoneInPages<S, W> = Done<StoreFile<S>, W>;
+
+/// Does a job over the store in files, which held this image.
+pub(crate) fn done_over<'a, D: Disk + Drop, W: Write + Drop>(
+    rt: &'a HostRuntime,
+    out: W,
+    store: PageRuns<D>,
+    job: Job<'_, 'a>,
+    remarks: &mut Vec<Remark<'a>>,
+) -> Done<D, W>
+    ensures { (image : Image) → IsStoreOf image store → WasDone ⟦<File as Read>⟧.remaining W.contents image job.entry (W.contents out) result }
+{
+    let (came_to, out, store) = job.over(rt, out, store, remarks);
+    Done {
+        came_to,
+        out,
+        store,
+    }
+}
