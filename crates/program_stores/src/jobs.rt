@@ -42,7 +42,7 @@ fn only_read(commands: &[WordsCommand<'_>]) -> bool
 
 /// What is done over the store at a path.
 #[derive(Clone, Copy)]
-pub enum Job<'c, 'a> {
+pub(crate) enum Job<'c, 'a> {
     Run(&'c [WordsCommand<'a>]),
     Serve(Service),
 }
@@ -92,15 +92,15 @@ impl<'a> Job<'_, 'a> {
 
 /// What a job came to.
 #[derive(Drop)]
-pub struct Done<D: Disk, W: Drop> {
+pub(crate) struct Done<D: Disk, W: Drop> {
     /// Its status, or why what it prints was not printed whole.
-    pub came_to: io::Result<u8>,
-    pub out: W,
-    pub store: PageRuns<D>,
+    pub(crate) came_to: io::Result<u8>,
+    pub(crate) out: W,
+    pub(crate) store: PageRuns<D>,
 }
 
 /// The same over the files at a path.
-pub type DoneInPages<S, W> = Done<StoreFile<S>, W>;
+pub(crate) type DoneInPages<S, W> = Done<StoreFile<S>, W>;
 
 /// Does a job over the store in files, which held this image.
 pub(crate) fn done_over<'a, D: Disk + Drop, W: Write + Drop>(

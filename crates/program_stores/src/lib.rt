@@ -15,8 +15,7 @@ mod telling;
 // A job is done over the store at a path (specs/Theorem.antt).
 mod works;
 
-pub use jobs::{Done, DoneInPages, Job, Outputs};
-pub use reading::{StoreFile, StoreInPages, store_in};
+pub use jobs::Outputs;
+pub use reading::store_in;
 pub use running::run;
 pub use store_paths::Openings;
-pub use works::work_at;

@@ -31,17 +31,17 @@ pub(crate) const LONGEST_LOG: usize = 0x400_0000;
 
 /// A file of a store: to be changed, or only read, alone or beside others. It is one type for all three, so that what is
 /// done over a store is compiled once.
-pub type StoreFile<S> = EitherDisk<
+pub(crate) type StoreFile<S> = EitherDisk<
     FileFrom<S>,
     EitherDisk<ReadOnly<FileFrom<S>, S>, ReadOnly<FileOf<S>, S>>,
 >;
 
 /// The store in the pages of such a file. `S` says what the files held as they were opened.
-pub type StoreInPages<S> = PageRuns<StoreFile<S>>;
+pub(crate) type StoreInPages<S> = PageRuns<StoreFile<S>>;
 
 /// Why the store in files is not read from its pages.
 #[derive(Clone, Copy, Debug, PartialEq, Eq)]
-pub enum Unread {
+pub(crate) enum Unread {
     /// Its log cannot be held in memory: it is too long, or cannot be read whole.
     Unheld,
     /// Memory was refused.

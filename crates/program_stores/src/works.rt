@@ -82,7 +82,7 @@ fn work_alone<'a, S: Openings, O: Outputs>(
 
 /// Does a job over the store at a path, which is made where there is none: one that only reads beside others, if it can be
 /// read so. `S` says what the files held when the store was opened over which it was done, whoever had made or changed them.
-pub fn work_at<'a, S: Openings, O: Outputs>(
+pub(crate) fn work_at<'a, S: Openings, O: Outputs>(
     rt: &'a HostRuntime,
     outputs: &O,
     db: &str,
