@@ -34,6 +34,7 @@ impl Openings for HostFiles {
 }
 
 /// The standard output, of which the checker knows no byte.
+#[derive(Drop)]
 struct StandardOutput<'a> {
     rt: &'a HostRuntime,
 }
