@@ -1,6 +1,7 @@
 // Opens the store in files, or at a path, by its pages.
 ghost use Rattle.std.specs.Prelude.{true, false, IfOk, IsTrue};
-ghost use Rattle.sqlite_wal.specs.Files.{image_at, seen_image};
+ghost use Rattle.sqlite_wal.specs.Files.{image_at};
+ghost use Rattle.sqlite_wal.specs.Recovery.{Image};
 ghost use Rattle.read_only_disks.specs.Untouched.{IsUntouched};
 ghost use Rattle.sqlite_std_file.specs.File.{IsFresh};
 ghost use Rattle.files_to_read.specs.File.{IsFresh as IsFreshBeside};
@@ -69,7 +70,7 @@ pub fn store_in<D: Disk + Drop>(
 ) -> Result<PageRuns<D>, StoreError>
     requires log { IsTrue (D.Disk.is_usable files.log) }
     requires db { IsTrue (D.Disk.is_usable files.db) }
-    ensures { IfOk result (IsStoreOf (seen_image D.Disk files.log files.db)) }
+    ensures { (image : Image) → ShowImage D.Disk image files → IfOk result (IsStoreOf image) }
 {
     PageRuns::open(alloc, files, options, cells_to_keep)
 }
