@@ -9,7 +9,7 @@ use Rattle.sqlite.specs.Files.{HoldsDatabase}
 use Rattle.sqlite.specs.Opening.{HoldsAt}
 use Rattle.plain_tables.specs.Tables.{Tables}
 use Rattle.store_schema.specs.Tables.{Holds}
-use Rattle.page_runs.specs.Sizes.{IsSizeOf}
+use Rattle.page_lists.specs.Sizes.{IsSizeOf}
 use Rattle.page_runs.specs.States.{HoldsIn}
 
 no_sum : (n : ℕ) (bytes : List ℕ) → n % 16 ≡ 0 → length bytes ≡ n → bytes ≡ sealed (take n bytes)

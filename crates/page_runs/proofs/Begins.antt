@@ -4,10 +4,10 @@ use Rattle.sqlite_disk.specs.declared.Disk.{Ghosts}
 use Rattle.sqlite_value.specs.Order.{Row}
 use Rattle.page_files.specs.declared.files.PageFile.{PageFile}
 use Rattle.page_rows.specs.Rows.{from_rowid}
-use Rattle.page_runs.specs.Shown.{ShowsRows}
-use Rattle.page_runs.specs.Walks.{AllEarlier, InOrder, IsFirstOf}
-use Rattle.page_runs.proofs.RunRows.{earlier_behind}
-use Rattle.page_runs.proofs.Shows.{rows_behind}
+use Rattle.page_lists.specs.Shown.{ShowsRows}
+use Rattle.page_lists.specs.Walks.{AllEarlier, InOrder, IsFirstOf}
+use Rattle.page_lists.proofs.RunRows.{earlier_behind}
+use Rattle.page_lists.proofs.Shows.{rows_behind}
 
 module _ {D : Type 0} {g : Ghosts D} (file : PageFile D g) (root : ℕ) (rows : List Row) (is : ShowsRows file root rows) where
   -- behind the first row from a rowid on, where it is of an earlier run

@@ -20,9 +20,9 @@ use Rattle.run_lists.specs.declared.listed.RunLists.{RunLists}
 use Rattle.store_schema.specs.Tables.{Holds}
 use Rattle.page_runs.specs.Finished.{Commits, Finishes, IsUndone}
 use Rattle.page_places.specs.Roots.{AreRoots}
-use Rattle.page_runs.specs.Shown.{StandUnder}
+use Rattle.page_lists.specs.Shown.{StandUnder}
 use Rattle.page_runs.specs.declared.store.PageRuns.{PageRuns}
-use Rattle.page_runs.proofs.Rooting.{tables_show}
+use Rattle.page_lists.proofs.Rooting.{tables_show}
 use Rattle.page_runs.proofs.Taken.{represents_as}
 
 three_ok : {T E : Type 0} (r : Result T E) {P Q R S : Type 0} → (P → Q → R → S) → OnOk r P → OnOk r Q → OnOk r R → OnOk r S

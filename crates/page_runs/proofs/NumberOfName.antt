@@ -12,7 +12,7 @@ use Rattle.sqlite_trees.specs.Tree.{IsAscending}
 use Rattle.store_schema.specs.Names.{number_if_held}
 use Rattle.store_schema.proofs.Names.{is_held, not_held}
 use Rattle.held_lines.proofs.NumbersOfNames.{IsOther, none_named}
-use Rattle.page_runs.proofs.SomeNames.{IsBelow}
+use Rattle.page_lists.proofs.SomeNames.{IsBelow}
 
 -- a number that is held is above one that is below all
 held_above : (low n : ℕ) (names : List NameRow) → AllByRecursion (λ (line : NameRow). low < line.number) names → IsHeld names n → low < n

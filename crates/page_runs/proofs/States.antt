@@ -25,7 +25,7 @@ use Rattle.page_runs.specs.Kept.{AreKept}
 use Rattle.page_runs.specs.States.{IsFaithful, IsSettled, Left, Represents, ShowsTables, kept, may_leave, state_of}
 use Rattle.page_runs.specs.declared.store.PageRuns.{PageRuns}
 use Rattle.page_files.proofs.Reading.{OnlyReads-refl}
-use Rattle.page_runs.proofs.Shows.{same_store}
+use Rattle.page_lists.proofs.Shows.{same_store}
 
 -- an error is no answer
 pub none_answered : {T E P : Type 0} (r : Result T E) → IsErr r → IsTrue (is_ok r) → P

@@ -14,9 +14,9 @@ use Rattle.run_order.specs.Order.{AreInOrder}
 use Rattle.page_places.specs.Roots.{AreRoots}
 use Rattle.page_places.proofs.Stores.{shows_resting}
 use Rattle.page_runs.specs.Kept.{AreKept}
-use Rattle.page_runs.specs.Shown.{ShowsLines, ShowsRows}
+use Rattle.page_lists.specs.Shown.{ShowsLines, ShowsRows}
 use Rattle.page_runs.specs.States.{Represents, ShowsTables}
-use Rattle.page_runs.proofs.Rooting.{tables_show}
+use Rattle.page_lists.proofs.Rooting.{tables_show}
 use Rattle.page_runs.specs.declared.store.PageRuns.{PageRuns}
 
 module _ {D : Type 0} {g : Ghosts D} where

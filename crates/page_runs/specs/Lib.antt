@@ -1,13 +1,4 @@
-pub mod Among
 pub mod Finished
-pub mod Indexed
 pub mod Kept
-pub mod Meta
-pub mod Names
-pub mod Opening
 pub mod PartSums
-pub mod Shown
-pub mod Sizes
 pub mod States
-pub mod Texts
-pub mod Walks

@@ -10,15 +10,15 @@ ghost use Rattle.store_schema.specs.Lines.{call_row, cell_row, held_stack};
 ghost use Rattle.store_schema.specs.Tables.{number, cell_columns, arc_columns, stack_columns};
 ghost use Rattle.page_runs.specs.Kept.{HasGathered};
 ghost use Rattle.page_runs.specs.PartSums.{SumTo};
-ghost use Rattle.page_runs.specs.Shown.{ShowsLines};
+ghost use Rattle.page_lists.specs.Shown.{ShowsLines};
 
-use crate::fields::{copied_in, end_of, number_in, whole_in};
 use crate::hints::Hints;
 use crate::kept::{Gathered, KeptCells};
 use crate::run_rows::{Added, LineSink, RunTable, each_line};
 use cost_rows::CellRow;
 use held_lines::{CallLines, CellLines, StackLines};
 use page_files::PageFile;
+use page_lists::{copied_in, end_of, number_in, whole_in};
 use plain_tables::StoreError;
 use run_stores::{CallSink, CellSink, StackRowSink};
 use sqlite_disk::Disk;

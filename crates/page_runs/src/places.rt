@@ -4,11 +4,11 @@ ghost use Rattle.std.specs.Int.{w64};
 ghost use Rattle.sqlite_value.specs.Order.{Row};
 ghost use Rattle.page_files.specs.Files.{IsFaithful, OnlyReads};
 ghost use Rattle.page_rows.specs.Rows.{from_rowid};
-ghost use Rattle.page_runs.specs.Shown.{ShowsRows};
-ghost use Rattle.page_runs.specs.Walks.{AllEarlier, InOrder, IsFirstOf};
+ghost use Rattle.page_lists.specs.Shown.{ShowsRows};
+ghost use Rattle.page_lists.specs.Walks.{AllEarlier, InOrder, IsFirstOf};
 
-use crate::fields::number_in;
 use page_files::PageFile;
+use page_lists::number_in;
 use page_places::{error_of, error_of_walk};
 use page_rows::RowSink;
 use plain_tables::StoreError;
@@ -24,7 +24,7 @@ struct First {
 
 impl RowSink for First {
     ghost use Rattle.std.specs.Prelude.{◌≡◌, ℤ, ℕ, [], Some, None, ⊤};
-    ghost use Rattle.page_runs.specs.Walks.{IsFirstOf};
+    ghost use Rattle.page_lists.specs.Walks.{IsFirstOf};
 
     type Refusal = StoreError;
 

@@ -3,14 +3,14 @@ ghost use Rattle.std.specs.Prelude.{◌≡◌, [], List, IfOk};
 ghost use Rattle.sqlite_value.specs.Order.{Row};
 ghost use Rattle.page_files.specs.Files.{IsFaithful, OnlyReads};
 ghost use Rattle.page_runs.specs.PartSums.{SumTo};
-ghost use Rattle.page_runs.specs.Shown.{ShowsRows};
-ghost use Rattle.page_runs.specs.Walks.{AreOfRun, InOrder};
+ghost use Rattle.page_lists.specs.Shown.{ShowsRows};
+ghost use Rattle.page_lists.specs.Walks.{AreOfRun, InOrder};
 
-use crate::fields::number_in;
 use crate::hints::Hints;
 use crate::part_sums::{is_nothing, take_off};
 use crate::places::begin_of;
 use page_files::PageFile;
+use page_lists::number_in;
 use page_places::error_of_walk;
 use page_rows::RowSink;
 use plain_tables::StoreError;
@@ -88,7 +88,7 @@ impl<T: LineSink + Drop> RowSink for RunRows<T> {
     ghost use Rattle.std.specs.Prelude.{◌≡◌, ◌<◌, ◌++◌, ◌∷◌, [], ℕ, List, ⊤};
     ghost use Rattle.sqlite_value.specs.Order.{Row};
     ghost use Rattle.page_runs.specs.PartSums.{LeaveOf};
-    ghost use Rattle.page_runs.specs.Walks.{AreOfRun, run_in};
+    ghost use Rattle.page_lists.specs.Walks.{AreOfRun, run_in};
 
     type Refusal = StoreError;
 

@@ -11,25 +11,23 @@ ghost use Rattle.run_lists.specs.Listed.{AreListed};
 ghost use Rattle.run_lists.specs.RowSums.{calls_of_run, cells_of_run, stacks_of_run};
 ghost use Rattle.page_runs.specs.Finished.{Commits, Finishes};
 ghost use Rattle.page_runs.specs.PartSums.{IsRunTable};
-ghost use Rattle.page_runs.specs.Sizes.{IsSizeOf};
+ghost use Rattle.page_lists.specs.Sizes.{IsSizeOf};
 ghost use Rattle.page_runs.specs.States.{IsFaithful, RepresentsImage, state_of};
 ghost use Rattle.run_stores.specs.Calls.{Asks};
 ghost use Rattle.std.specs.Result.{is_ok};
 
-use crate::files::open_file;
 use crate::handed::{each_call, each_cell, each_kept, each_stack};
-use crate::heads::head_of;
 use crate::hints::RunHints;
 use crate::kept::KeptCells;
-use crate::lists::read_lists;
-use crate::names::{holds_names, names_among, names_under};
-use crate::opening::open_store;
 use crate::run_rows::RunTable;
 use cg_formulas::FileHead;
 use cg_text::ListVec;
 use cost_rows::FileTotals;
 use held_lines::{HeldNames, is_name};
 use page_files::PageFile;
+use page_lists::{
+    head_of, holds_names, names_among, names_under, open_file, open_store, read_lists,
+};
 use page_places::{StoreRoots, error_of, find_name};
 use plain_tables::StoreError;
 use profile_records::Kind;

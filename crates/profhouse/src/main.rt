@@ -4,11 +4,13 @@
 ghost use Rattle.std.specs.Prelude.{true, [], None};
 
 use anyhow::Result;
-use program_stores::{Openings, Outputs};
+use page_openers::PathOpener;
+use program_stores::Outputs;
 use sqlite_disk::Start;
 use std::io;
 use std::io::Printer;
 use std::process::ExitCode;
+use store_paths::Openings;
 
 /// The files of the host. Of what they hold the checker knows nothing: what is proved is so for all that they may hold. As
 /// the kit's `Unknown`, it supposes that a torn write leaves each byte old or new.
@@ -51,5 +53,5 @@ impl<'a> Outputs for StandardOutput<'a> {
 
 fn main(rt: HostRuntime) -> Result<ExitCode> {
     let outputs = StandardOutput { rt: &rt };
-    program_stores::run::<HostFiles, StandardOutput>(&rt, &outputs)
+    program_stores::run::<PathOpener<HostFiles>, StandardOutput>(&rt, &outputs)
 }

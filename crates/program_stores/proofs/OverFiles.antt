@@ -13,7 +13,7 @@ use Rattle.histories.specs.declared.limits.Limits.{Limits}
 use Rattle.store_histories.specs.Answered.{HasHistory}
 use Rattle.warehouse.specs.Taken.{CameTo}
 use Rattle.warehouse.proofs.Taken.{taken_clean}
-use Rattle.program_stores.specs.Opened.{IsStoreOf}
+use Rattle.store_openers.specs.Opened.{IsStoreOf}
 use Rattle.program_stores.specs.Theorem.{WasDone, Works}
 use Rattle.program_stores.specs.Jobs.{Tells}
 use Rattle.program_stores.specs.declared.jobs.Done.{Done}

@@ -1,3 +1,2 @@
 pub mod Jobs
-pub mod Opened
 pub mod Theorem

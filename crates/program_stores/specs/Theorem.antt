@@ -3,7 +3,7 @@ use Rattle.std.specs.Prelude.{ℕ, ◌++◌, List, Option}
 use Rattle.sqlite_disk.specs.declared.Disk.{Ghosts}
 use Rattle.sqlite_wal.specs.Recovery.{Image}
 use Rattle.run_stores.specs.Calls.{IsFaithful}
-use Rattle.page_runs.specs.Sizes.{IsSizeOf}
+use Rattle.page_lists.specs.Sizes.{IsSizeOf}
 use Rattle.page_runs.specs.States.{state_of}
 use Rattle.page_runs.specs.declared.store.PageRuns.{PageRuns}
 use Rattle.histories.specs.History.{History}
@@ -14,7 +14,7 @@ use Rattle.store_histories.specs.Answered.{HasHistory}
 use Rattle.program_stores.specs.declared.jobs.Done.{Done}
 use Rattle.program_stores.specs.declared.jobs.Job.{Job}
 use Rattle.program_stores.specs.Jobs.{Tells}
-use Rattle.program_stores.specs.Opened.{HoldHistory}
+use Rattle.store_openers.specs.Opened.{HoldHistory}
 
 module _ {D : Type 0} {g : Ghosts D} where
   -- under the standard limits steps were taken that are legal after a history, of which this holds, and the store has the history with them

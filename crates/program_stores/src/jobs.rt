@@ -5,12 +5,11 @@ ghost use Rattle.sqlite_wal.specs.Recovery.{Image};
 ghost use Rattle.run_stores.specs.Calls.{IsFaithful};
 ghost use Rattle.program_stores.specs.Jobs as specs;
 ghost use Rattle.program_stores.specs.Jobs.{Tells};
-ghost use Rattle.program_stores.specs.Opened.{IsStoreOf};
+ghost use Rattle.store_openers.specs.Opened.{IsStoreOf};
 ghost use Rattle.program_stores.specs.Theorem.{WasDone};
 ghost use Rattle.requests.specs.Plain.{only_reads};
 ghost use Rattle.warehouse.specs.Taken.{CameTo};
 
-use crate::reading::StoreFile;
 use http_service::{Service, serve_over};
 use page_runs::PageRuns;
 use run_stores::RunStore;
@@ -48,7 +47,8 @@ pub(crate) enum Job<'c, 'a> {
 }
 
 impl<'a> Job<'_, 'a> {
-    /// Does it over a store, of which there was read what `T` says. What was found of files is kept beside.
+    /// Does it over any store, and prints what is to be printed. What was found of the files that commands read is kept
+    /// beside.
     fn over<W: Write + Drop, T: RunStore>(
         self,
         rt: &'a HostRuntime,
@@ -98,9 +98,6 @@ pub(crate) struct Done<D: Disk, W: Drop> {
     pub(crate) out: W,
     pub(crate) store: PageRuns<D>,
 }
-
-/// The same over the files at a path.
-pub(crate) type DoneInPages<S, W> = Done<StoreFile<S>, W>;
 
 /// Does a job over the store in files, which held this image.
 pub(crate) fn done_over<'a, D: Disk + Drop, W: Write + Drop>(

@@ -1,7 +1,7 @@
 // What the words of a command line say is done, over the files that they name.
 ghost use Rattle.sessions.specs.Commands.{HasCommands};
 
-use crate::jobs::{DoneInPages, Job, Outputs};
+use crate::jobs::{Done, Job, Outputs};
 use crate::telling::tell_person;
 use crate::works::work_at;
 use anyhow::Result;
@@ -18,7 +18,8 @@ use std::io::ErrorKind;
 use std::process::ExitCode;
 use std::rt::HostRuntime;
 use std::{env, io};
-use store_paths::{Cause, NotOpened, Openings, cause_line, error_line};
+use store_openers::Opener;
+use store_paths::{Cause, NotOpened, cause_line, error_line};
 
 /// Prints the line of a refusal. No guarantee: of what is printed the checker knows nothing.
 fn print_refused<R: Print>(rt: &R, reason: &str) -> io::Result<ExitCode> {
@@ -34,10 +35,10 @@ fn has_met_full_disk<D: Disk + Drop>(store: PageRuns<D>) -> bool {
 
 /// The status of what a job came to over the store at a path, or of one that was not opened: why is printed. No guarantee:
 /// `work_at` says what a job comes to.
-fn status_of<S: Openings, W: Drop>(
+fn status_of<D: Disk + Drop, W: Drop>(
     rt: &HostRuntime,
     db: &str,
-    came_to: Result<DoneInPages<S, W>, NotOpened>,
+    came_to: Result<Done<D, W>, NotOpened>,
 ) -> io::Result<ExitCode> {
     match came_to {
         Ok(done) => {
@@ -84,35 +85,35 @@ fn run_total(rt: &HostRuntime, path: &str) -> io::Result<ExitCode> {
 }
 
 /// Does a job over the store at a path, and prints why where none is opened. No guarantee: as `status_of`.
-fn run_job<'a, S: Openings, O: Outputs>(
+fn run_job<'a, P: Opener, O: Outputs>(
     rt: &'a HostRuntime,
     outputs: &O,
     db: &str,
     job: Job<'_, 'a>,
 ) -> io::Result<ExitCode> {
-    status_of(rt, db, work_at::<S, O>(rt, outputs, db, job))
+    status_of(rt, db, work_at::<P, O>(rt, outputs, db, job))
 }
 
 /// Runs the commands of a plan that has such. No guarantee: as `run_plan`.
-fn run_commands<'a, S: Openings, O: Outputs>(
+fn run_commands<'a, P: Opener, O: Outputs>(
     rt: &'a HostRuntime,
     outputs: &O,
-    plan: Plan<'a>,
+    plan: &Plan<'a>,
 ) -> io::Result<ExitCode>
-    requires { HasCommands plan }
+    requires { HasCommands plan.now }
 {
     match commands_of(rt.alloc(), plan) {
-        Ok((db, commands)) => { run_job::<S, O>(rt, outputs, db, Job::Run(commands.as_slice())) }
+        Ok((db, commands)) => { run_job::<P, O>(rt, outputs, db, Job::Run(commands.as_slice())) }
         Err(AllocError) => print_refused(rt, "out of memory"),
     }
 }
 
 /// Does what a plan says, and prints what it came to. No guarantee: which files stand at the paths of a plan
 /// the checker does not know; `commands_of`, `total_read` and `work_over` say what is made of them.
-fn run_plan<'a, S: Openings, O: Outputs>(
+fn run_plan<'a, P: Opener, O: Outputs>(
     rt: &'a HostRuntime,
     outputs: &O,
-    plan: Plan<'a>,
+    plan: &Plan<'a>,
 ) -> io::Result<ExitCode> {
     match plan {
         Plan::Total { path } => run_total(rt, path),
@@ -124,14 +125,14 @@ fn run_plan<'a, S: Openings, O: Outputs>(
             log,
         } => {
             let service = Service {
-                port,
-                requests,
-                most: most_bytes as usize,
-                log,
+                port: *port,
+                requests: *requests,
+                most: *most_bytes as usize,
+                log: *log,
             };
-            run_job::<S, O>(rt, outputs, db, Job::Serve(service))
+            run_job::<P, O>(rt, outputs, db, Job::Serve(service))
         }
-        commands => run_commands::<S, O>(rt, outputs, commands),
+        commands => run_commands::<P, O>(rt, outputs, commands),
     }
 }
 
@@ -153,10 +154,10 @@ fn print_unplanned(rt: &HostRuntime, end: PlanEnd) -> io::Result<ExitCode> {
 }
 
 /// Does what the words that the program was started with say. No guarantee: as `run_plan`.
-pub fn run<S: Openings, O: Outputs>(rt: &HostRuntime, outputs: &O) -> Result<ExitCode> {
+pub fn run<P: Opener, O: Outputs>(rt: &HostRuntime, outputs: &O) -> Result<ExitCode> {
     let words: Vec<String> = env::args(rt)?.collect(rt.alloc())?;
     let status = match plan(rt.alloc(), words.as_slice()) {
-        Ok(plan) => run_plan::<S, O>(rt, outputs, plan)?,
+        Ok(plan) => run_plan::<P, O>(rt, outputs, &plan)?,
         Err(end) => print_unplanned(rt, end)?,
     };
     Ok(status)

@@ -8,7 +8,7 @@ use cg_text::ListVec;
 use command_line::Plan;
 use profile_records::Kind;
 use report_texts::Cut;
-use requests::{Command, Query};
+use requests::{Command, Query, Selection};
 use std::alloc::{AllocError, Global};
 
 /// A command, by the path of the file that it reads, and the words of a command line.
@@ -56,11 +56,22 @@ fn removals<'a>(alloc: Global, numbers: &[u32]) -> Result<ListVec<WordsCommand<'
     Ok(commands)
 }
 
+/// The same runs, of a name that is lent.
+fn again<'a>(selection: &Selection<&'a [u8]>) -> Selection<&'a [u8]>
+    ensures { result ≡ selection.now }
+{
+    match selection {
+        Selection::All => Selection::All,
+        Selection::Run(number) => Selection::Run(*number),
+        Selection::Group(name) => Selection::Group(*name),
+    }
+}
+
 /// The path of the store and the question of a plan that asks for calls.
-fn calls_query<'a>(plan: Plan<'a>) -> (&'a str, Query<&'a [u8]>)
-    requires { AsksForCalls plan }
-    ensures store { store_of plan.entry ≡ Some result.0.now }
-    ensures query { commands_by plan.entry ≡ asks.Ask (plain_query result.1) ∷ [] }
+fn calls_query<'a>(plan: &Plan<'a>) -> (&'a str, Query<&'a [u8]>)
+    requires { AsksForCalls plan.now }
+    ensures store { store_of plan.now ≡ Some result.0.now }
+    ensures query { commands_by plan.now ≡ asks.Ask (plain_query result.1) ∷ [] }
 {
     match plan {
         Plan::Callers {
@@ -71,12 +82,12 @@ fn calls_query<'a>(plan: Plan<'a>) -> (&'a str, Query<&'a [u8]>)
             function,
         } => {
             let query = Query::Callers {
-                selection,
+                selection: again(selection),
                 event: event.as_bytes(),
                 object: object.as_bytes(),
                 function: function.as_bytes(),
             };
-            (db, query)
+            (*db, query)
         }
         Plan::Callees {
             db,
@@ -86,26 +97,26 @@ fn calls_query<'a>(plan: Plan<'a>) -> (&'a str, Query<&'a [u8]>)
             function,
         } => {
             let query = Query::Callees {
-                selection,
+                selection: again(selection),
                 event: event.as_bytes(),
                 object: object.as_bytes(),
                 function: function.as_bytes(),
             };
-            (db, query)
+            (*db, query)
         }
         _ => unreachable!(),
     }
 }
 
 /// The path of the store and the question of a plan that asks one.
-fn query_of<'a>(plan: Plan<'a>) -> (&'a str, Query<&'a [u8]>)
-    requires { IsQuestion plan }
-    ensures store { store_of plan.entry ≡ Some result.0.now }
-    ensures query { commands_by plan.entry ≡ asks.Ask (plain_query result.1) ∷ [] }
+fn query_of<'a>(plan: &Plan<'a>) -> (&'a str, Query<&'a [u8]>)
+    requires { IsQuestion plan.now }
+    ensures store { store_of plan.now ≡ Some result.0.now }
+    ensures query { commands_by plan.now ≡ asks.Ask (plain_query result.1) ∷ [] }
 {
     match plan {
-        Plan::Runs { db } => (db, Query::Runs),
-        Plan::Groups { db } => (db, Query::Groups),
+        Plan::Runs { db } => (*db, Query::Runs),
+        Plan::Groups { db } => (*db, Query::Groups),
         Plan::By {
             db,
             selection,
@@ -115,14 +126,14 @@ fn query_of<'a>(plan: Plan<'a>) -> (&'a str, Query<&'a [u8]>)
             key,
         } => {
             let event = event.as_bytes();
-            let cut = cut_of(limit, threshold);
+            let cut = cut_of(*limit, *threshold);
             let query = Query::By {
-                selection,
-                key,
+                selection: again(selection),
+                key: *key,
                 event,
                 cut,
             };
-            (db, query)
+            (*db, query)
         }
         Plan::Inclusive {
             db,
@@ -130,7 +141,8 @@ fn query_of<'a>(plan: Plan<'a>) -> (&'a str, Query<&'a [u8]>)
             event,
         } => {
             let event = event.as_bytes();
-            (db, Query::Inclusive { selection, event })
+            let selection = again(selection);
+            (*db, Query::Inclusive { selection, event })
         }
         Plan::Subtract {
             db,
@@ -140,40 +152,43 @@ fn query_of<'a>(plan: Plan<'a>) -> (&'a str, Query<&'a [u8]>)
             key,
         } => {
             let query = Query::Subtract {
-                first: selection,
-                second: less,
-                key,
+                first: again(selection),
+                second: less.as_ref().map(again),
+                key: *key,
                 event: event.as_bytes(),
             };
-            (db, query)
+            (*db, query)
         }
-        Plan::Verify { db, selection } => (db, Query::Verify(selection)),
-        Plan::Csv { db, selection } => (db, Query::Csv(selection)),
-        Plan::Folded { db, selection } => (db, Query::Folded(selection)),
+        Plan::Verify { db, selection } => (*db, Query::Verify(again(selection))),
+        Plan::Csv { db, selection } => (*db, Query::Csv(again(selection))),
+        Plan::Folded { db, selection } => (*db, Query::Folded(again(selection))),
         calls => calls_query(calls),
     }
 }
 
 /// The path of the store and the command of a plan that says one.
-fn command_of<'a>(plan: Plan<'a>) -> (&'a str, WordsCommand<'a>)
-    requires { IsOneCommand plan }
-    ensures store { store_of plan.entry ≡ Some result.0.now }
-    ensures command { commands_by plan.entry ≡ plain_request result.1 ∷ [] }
+fn command_of<'a>(plan: &Plan<'a>) -> (&'a str, WordsCommand<'a>)
+    requires { IsOneCommand plan.now }
+    ensures store { store_of plan.now ≡ Some result.0.now }
+    ensures command { commands_by plan.now ≡ plain_request result.1 ∷ [] }
 {
     match plan {
         Plan::Group {
             db,
             drop: false,
             name,
-        } => (db, Command::MakeGroup(name.as_bytes())),
+        } => (*db, Command::MakeGroup(name.as_bytes())),
         Plan::Group {
             db,
             drop: true,
             name,
-        } => (db, Command::DropGroup(name.as_bytes())),
-        Plan::Join { db, name, number } => (db, Command::Join(name.as_bytes(), number)),
-        Plan::Leave { db, name, number } => (db, Command::Leave(name.as_bytes(), number)),
-        Plan::Baseline { db, name, number } => (db, Command::SetBaseline(name.as_bytes(), number)),
+        } => (*db, Command::DropGroup(name.as_bytes())),
+        Plan::Join { db, name, number } => (*db, Command::Join(name.as_bytes(), *number)),
+        Plan::Leave { db, name, number } => (*db, Command::Leave(name.as_bytes(), *number)),
+        Plan::Baseline { db, name, number } => (
+            *db,
+            Command::SetBaseline(name.as_bytes(), *number),
+        ),
         Plan::Annotate {
             db,
             selection,
@@ -182,12 +197,12 @@ fn command_of<'a>(plan: Plan<'a>) -> (&'a str, WordsCommand<'a>)
             source,
         } => {
             let command = Command::Annotate {
-                selection,
+                selection: again(selection),
                 event: event.as_bytes(),
                 file: file.as_bytes(),
-                source,
+                source: *source,
             };
-            (db, command)
+            (*db, command)
         }
         question => {
             let (db, query) = query_of(question);
@@ -199,15 +214,15 @@ fn command_of<'a>(plan: Plan<'a>) -> (&'a str, WordsCommand<'a>)
 /// The path of the store and the commands of a plan that has such.
 pub fn commands_of<'a>(
     alloc: Global,
-    plan: Plan<'a>,
+    plan: &Plan<'a>,
 ) -> Result<(&'a str, ListVec<WordsCommand<'a>>), AllocError>
-    requires { HasCommands plan }
-    ensures store { IfOk result (λ found. store_of plan.entry ≡ Some found.0.now) }
-    ensures commands { IfOk result (λ found. map plain_request found.1 ≡ commands_by plan.entry) }
+    requires { HasCommands plan.now }
+    ensures store { IfOk result (λ found. store_of plan.now ≡ Some found.0.now) }
+    ensures commands { IfOk result (λ found. map plain_request found.1 ≡ commands_by plan.now) }
 {
     match plan {
-        Plan::Import { db, kind, files } => Ok((db, imports(alloc, kind, files.as_slice())?)),
-        Plan::Remove { db, numbers } => Ok((db, removals(alloc, numbers.as_slice())?)),
+        Plan::Import { db, kind, files } => Ok((*db, imports(alloc, *kind, files.as_slice())?)),
+        Plan::Remove { db, numbers } => Ok((*db, removals(alloc, numbers.as_slice())?)),
         one => {
             let (db, command) = command_of(one);
             let mut commands = ListVec::new(alloc);

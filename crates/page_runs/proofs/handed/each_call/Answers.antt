@@ -5,7 +5,7 @@ use Rattle.store_schema.specs.Tables.{arc_columns}
 use Rattle.store_schema.proofs.RunRows.{one_call}
 use Rattle.run_lists.specs.RowSums.{sum_of_part}
 use Rattle.run_stores.specs.Walks.{CallsFoldTo}
-use Rattle.page_runs.proofs.RunRows.{lines_are, shown_in_order}
+use Rattle.page_lists.proofs.RunRows.{lines_are, shown_in_order}
 use Rattle.page_runs.proofs.handed.each_call.Goals as goal
 
 pub returns-clause-told : goal.returns-clause-told

@@ -5,7 +5,7 @@ use Rattle.store_schema.proofs.RunRows.{one_cell}
 use Rattle.run_lists.specs.RowSums.{sum_of_part}
 use Rattle.run_stores.specs.Walks.{CellsFoldTo}
 use Rattle.page_runs.specs.Kept.{HasGathered}
-use Rattle.page_runs.proofs.RunRows.{lines_are, shown_in_order}
+use Rattle.page_lists.proofs.RunRows.{lines_are, shown_in_order}
 use Rattle.page_runs.proofs.handed.each_cell.Goals as goal
 
 pub returns-clause-told : goal.returns-clause-told

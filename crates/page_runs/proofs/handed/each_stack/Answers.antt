@@ -4,7 +4,7 @@ use Rattle.prof_books.specs.Book.{stack_held}
 use Rattle.store_schema.specs.Tables.{stack_columns}
 use Rattle.store_schema.proofs.RunRows.{one_stack}
 use Rattle.run_lists.specs.RowSums.{sum_of_part}
-use Rattle.page_runs.proofs.RunRows.{lines_are, shown_in_order}
+use Rattle.page_lists.proofs.RunRows.{lines_are, shown_in_order}
 use Rattle.page_runs.proofs.handed.each_stack.Goals as goal
 
 pub returns-clause-told : goal.returns-clause-told

@@ -1,7 +1,7 @@
 use Rattle.std.proofs.Common.{FitsSigned, IfSome, sym, subst, to_z-of_z, w64}
 use Rattle.page_files.proofs.Reading.{OnlyReads-trans}
-use Rattle.page_runs.specs.Walks.{AllEarlier}
-use Rattle.page_runs.proofs.Shows.{shows_after}
+use Rattle.page_lists.specs.Walks.{AllEarlier}
+use Rattle.page_lists.proofs.Shows.{shows_after}
 use Rattle.page_runs.proofs.places.begin_of.Goals as goal
 
 pub returns-in-Some-2-clause-earlier : goal.returns-in-Some-2-clause-earlier

@@ -1,7 +1,7 @@
 use Rattle.std.proofs.Common.{ap₂, sym, to_z-of_z, subst, ◌∙◌, inl, inr, refl}
 use Rattle.page_rows.specs.Rows.{from_rowid}
-use Rattle.page_runs.specs.Walks.{IsFirstOf}
-use Rattle.page_runs.proofs.RunRows.{first_of_more}
+use Rattle.page_lists.specs.Walks.{IsFirstOf}
+use Rattle.page_lists.proofs.RunRows.{first_of_more}
 use Rattle.page_runs.proofs.places.first_from.Goals as goal
 
 pub returns-in-Ok-clause-found : goal.returns-in-Ok-clause-found

@@ -1,9 +1,9 @@
 use Rattle.std.proofs.Common.{arith, subst, sym, ◌∙◌, to_z-of_z}
-use Rattle.page_runs.specs.Walks.{AllEarlier}
+use Rattle.page_lists.specs.Walks.{AllEarlier}
 use Rattle.page_files.proofs.Reading.{OnlyReads-trans}
 use Rattle.page_runs.proofs.Begins.{earlier_found}
-use Rattle.page_runs.proofs.RunRows.{earlier_from_least}
-use Rattle.page_runs.proofs.Shows.{all_from_least, shows_after}
+use Rattle.page_lists.proofs.RunRows.{earlier_from_least}
+use Rattle.page_lists.proofs.Shows.{all_from_least, shows_after}
 use Rattle.page_runs.proofs.places.place_of.Goals as goal
 use Rattle.page_runs.proofs.places.place_of.Goals.{in-Some, in-None}
 

@@ -1,8 +1,8 @@
 use Rattle.std.proofs.Common.{◌≤◌, ◌^◌, List}
 use Rattle.sqlite_value.specs.Order.{Row}
 use Rattle.page_files.specs.Files.{IsFaithful, OnlyReads}
-use Rattle.page_runs.specs.Shown.{ShowsRows}
-use Rattle.page_runs.specs.Walks.{AllEarlier, InOrder}
+use Rattle.page_lists.specs.Shown.{ShowsRows}
+use Rattle.page_lists.specs.Walks.{AllEarlier, InOrder}
 use Rattle.page_runs.proofs.places.place_of.Given as goal
 
 abbrev pub invariant-halves : goal.invariant-halves

@@ -1,7 +1,7 @@
 use Rattle.std.proofs.Common.{Option, Some, None, IfSome}
 use Rattle.page_runs.proofs.Begins.{earlier_found}
-use Rattle.page_runs.proofs.RunRows.{earlier_from_least}
-use Rattle.page_runs.proofs.Shows.{all_from_least}
+use Rattle.page_lists.proofs.RunRows.{earlier_from_least}
+use Rattle.page_lists.proofs.Shows.{all_from_least}
 use Rattle.page_runs.proofs.places.proved_place.Goals as goal
 
 if_some : {T : Type 0} (o : Option T) (P R : T → Type 0) → ((x : T) → P x → R x) → IfSome o P → IfSome o R

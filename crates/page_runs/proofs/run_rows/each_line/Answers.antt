@@ -1,10 +1,10 @@
 use Rattle.std.proofs.Common.{w64, of_z, to_z, ℕ, slice_index, subst, [], ap, ap₂, sym, refl, inl, inr, ◌∙◌, ◌≡◌, to_z-of_z, FitsSigned}
 use Rattle.page_rows.specs.Rows.{from_rowid}
-use Rattle.page_runs.specs.Walks.{AreOfRun}
+use Rattle.page_lists.specs.Walks.{AreOfRun}
 use Rattle.page_files.proofs.Reading.{OnlyReads-trans}
 use Rattle.page_runs.proofs.PartSums.{all_off, none_off}
-use Rattle.page_runs.proofs.RunRows.{all_taken, taken_to_later}
-use Rattle.page_runs.proofs.Shows.{shows_after}
+use Rattle.page_lists.proofs.RunRows.{all_taken, taken_to_later}
+use Rattle.page_lists.proofs.Shows.{shows_after}
 use Rattle.page_runs.proofs.run_rows.each_line.Goals as goal
 
 pub returns-in-Ok-clause-handed : goal.returns-in-Ok-clause-handed

@@ -2,7 +2,7 @@ use Rattle.std.proofs.Common.{[], ◌∷◌, ◌++◌, refl, sym, ap, ◌∙◌,
 use Rattle.sqlite_value.specs.declared.value.Value.TheVariants.{Int}
 use Rattle.sqlite_value.specs.Order.{column}
 use Rattle.sqlite_store.specs.Db.{table_row}
-use Rattle.page_runs.specs.Walks.{natural}
+use Rattle.page_lists.specs.Walks.{natural}
 use Rattle.page_runs.proofs.places.FirstRowSink.take.Goals as goal
 
 pub returns-clause-last : goal.returns-clause-last

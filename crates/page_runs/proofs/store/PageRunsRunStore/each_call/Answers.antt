@@ -3,7 +3,7 @@ use Rattle.run_stores.specs.Walks.{CallsFoldTo}
 use Rattle.plain_tables.specs.RunRows.{calls_in}
 use Rattle.plain_tables.specs.Tables.{StoredCall}
 use Rattle.store_schema.specs.Tables.{arc_columns}
-use Rattle.page_runs.specs.Shown.{ShowsLines}
+use Rattle.page_lists.specs.Shown.{ShowsLines}
 use Rattle.page_runs.proofs.Taken.{large_shown}
 use Rattle.page_runs.proofs.States.{asked, none_told}
 use Rattle.page_runs.proofs.store.PageRunsRunStore.each_call.Goals as goal

@@ -3,7 +3,7 @@ use Rattle.run_stores.specs.Walks.{CellsFoldTo}
 use Rattle.plain_tables.specs.RunRows.{cells_in}
 use Rattle.plain_tables.specs.Tables.{StoredCell}
 use Rattle.store_schema.specs.Tables.{cell_columns}
-use Rattle.page_runs.specs.Shown.{ShowsLines}
+use Rattle.page_lists.specs.Shown.{ShowsLines}
 use Rattle.page_runs.proofs.Taken.{large_shown}
 use Rattle.page_runs.specs.Kept.{HasGathered}
 use Rattle.page_runs.proofs.States.{asked, asked_keeping, none_told, stays_read}

@@ -2,7 +2,7 @@ use Rattle.std.proofs.Common.{fold, refl, sym, ap, subst, ◌∙◌}
 use Rattle.prof_books.specs.Book.{stacks_held}
 use Rattle.plain_tables.specs.Tables.{StoredStack}
 use Rattle.store_schema.specs.Tables.{stack_columns}
-use Rattle.page_runs.specs.Shown.{ShowsLines}
+use Rattle.page_lists.specs.Shown.{ShowsLines}
 use Rattle.page_runs.proofs.Taken.{large_shown}
 use Rattle.page_runs.proofs.States.{asked, none_told}
 use Rattle.page_runs.proofs.store.PageRunsRunStore.each_stack.Goals as goal

@@ -1,9 +1,9 @@
 use Rattle.std.proofs.Common.{Result, Ok, Err, IfOk, MatchResult, map, refl}
 use Rattle.store_schema.specs.Tables.{name_columns}
-use Rattle.page_runs.proofs.Among.{shown_rise}
+use Rattle.page_lists.proofs.Among.{shown_rise}
 use Rattle.page_runs.proofs.Changes.{is_done}
 use Rattle.page_runs.proofs.NumberOfName.{is_number}
-use Rattle.page_runs.proofs.SomeNames.{names_rise}
+use Rattle.page_lists.proofs.SomeNames.{names_rise}
 use Rattle.page_runs.proofs.States.{asked}
 use Rattle.page_runs.proofs.Taken.{large_shown}
 use Rattle.page_runs.proofs.store.PageRunsRunStore.number_of.Goals as goal

@@ -1,0 +1,12 @@
+pub mod Among
+pub mod Chains
+pub mod Columns
+pub mod HeadLists
+pub mod HeadTold
+pub mod Indexed
+pub mod NameColumns
+pub mod Probing
+pub mod Rooting
+pub mod RunRows
+pub mod Shows
+pub mod SomeNames

@@ -1,0 +1,54 @@
+-- Files that show rows.
+use Rattle.std.proofs.Common.{◌≡◌, ℕ, ℤ, negsuc, ◌-◌, ◌^◌, pos, ◌+ℤ◌, List, ◌∷◌, sym, ap, ap₂, subst, subst₂, ◌∙◌}
+use Rattle.sqlite_disk.specs.declared.Disk.{Ghosts}
+use Rattle.sqlite_value.specs.declared.value.Value.TheVariants.{Int}
+use Rattle.sqlite_value.specs.Order.{Row}
+use Rattle.sqlite_trees.specs.Tree.{Trees, rowid}
+use Rattle.page_files.specs.declared.files.PageFile.{PageFile}
+use Rattle.page_files.specs.Files.{OnlyReads, page_size, pages_of}
+use Rattle.page_rows.specs.Rows.{from_rowid}
+use Rattle.page_files.proofs.Reading.{same_table, same_trees}
+use Rattle.page_rows.proofs.FileTables.{all_shown_from_least, shown_behind}
+use Rattle.page_places.specs.Stores.{ShowsStore}
+use Rattle.plain_tables.specs.Tables.{Tables}
+use Rattle.sqlite_store.specs.Db.{roots_of, IsDb}
+use Rattle.sqlite_store.specs.Listing.{all_trees}
+use Rattle.sqlite_trees.specs.Objects.{with_version}
+use Rattle.page_lists.specs.Shown.{ShowsRows}
+
+module _ {D : Type 0} {g : Ghosts D} where
+  -- files that show the same pages show the same rows
+  module _ (old new : PageFile D g) (size : page_size new ≡ page_size old) (pages : pages_of new ≡ pages_of old) where
+    pub same_rows : (root : ℕ) (rows : List Row) → ShowsRows old root rows → ShowsRows new root rows
+    same_rows root rows is = record {
+      wanted = is.wanted;
+      t = is.t;
+      shows = same_table old new size pages is.shows;
+      rows_are = ap (λ (trees : Trees). trees is.t) (same_trees old new size pages is.wanted) ∙ is.rows_are;
+    }
+
+    -- and the same store
+    pub same_store : {t : Tables} {known : List ℕ} → ShowsStore t known old → ShowsStore t known new
+    same_store is = record {
+      wanted = is.wanted;
+      db = is.db;
+      stands = record {
+        is_db = subst₂ (λ n p. IsDb n is.wanted p) (sym size) (sym pages) is.stands.is_db;
+        known_are = is.stands.known_are ∙ ap₂ (λ n p. roots_of n is.wanted p) (sym size) (sym pages);
+        version = is.stands.version;
+        reads = is.stands.reads ∙ ap₂ (λ n p. with_version (all_trees n is.wanted p) is.stands.version) (sym size) (sym pages);
+      };
+      holds = is.holds;
+    }
+
+  -- calls that read leave the rows
+  pub shows_after : (old new : PageFile D g) (root : ℕ) (rows : List Row) → OnlyReads old new → ShowsRows old root rows → ShowsRows new root rows
+  shows_after old new root rows reads is = same_rows old new reads.keeps.stays.size reads.pages root rows is
+
+  module _ (file : PageFile D g) (root : ℕ) (rows : List Row) (is : ShowsRows file root rows) where
+    pub all_from_least : from_rowid (negsuc (2 ^ 63 - 1)) rows ≡ rows
+    all_from_least = subst (λ list. from_rowid (negsuc (2 ^ 63 - 1)) list ≡ list) is.rows_are (all_shown_from_least is.shows.is_db is.shows.rooted)
+
+    pub rows_behind : (at id : ℤ) (row : Row) (rest : List Row) → rowid row ≡ Int id → from_rowid at rows ≡ row ∷ rest → from_rowid (id +ℤ pos 1) rows ≡ rest
+    rows_behind at id row rest numbered =
+        subst (λ list. from_rowid at list ≡ row ∷ rest → from_rowid (id +ℤ pos 1) list ≡ rest) is.rows_are (shown_behind is.shows.is_db is.shows.rooted at id row rest numbered)

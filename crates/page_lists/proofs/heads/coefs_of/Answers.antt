@@ -1,0 +1,10 @@
+use Rattle.std.proofs.Common.{◌==◌, arith}
+use Rattle.plain_tables.specs.Tables.{CoefRow}
+use Rattle.prof_books.specs.HeldHeads.{coef_of_line}
+use Rattle.held_lines.specs.HeadLines.{entry_of_coef}
+use Rattle.run_lists.specs.Listed.{coef_row}
+use Rattle.page_lists.proofs.HeadLists.{all_kept}
+use Rattle.page_lists.proofs.heads.coefs_of.Goals as goal
+
+pub returns : goal.returns
+returns c = all_kept coef_row (λ (r : CoefRow). r.run == c.args.run) coef_of_line entry_of_coef c.args.coefs.now c.coefs.coef-index c.coefs.lines.items _ (omega arith) c.coefs.invariant c.sort_unstable_by_key.ensures.permutation

@@ -1,0 +1,25 @@
+use Rattle.std.proofs.Common.{◌==◌, ℕ, List, map, sym, subst, ◌∙◌, IsPermutation}
+use Rattle.std.proofs.lemmas.Result.{IfOk-weaker}
+use Rattle.plain_tables.specs.Tables.{EventRow, DerivedRow, CoefRow}
+use Rattle.prof_books.specs.HeldHeads.{coef_of_line, event_of_line, name_of_line}
+use Rattle.held_lines.specs.HeadLines.{derived_place, entry_of_coef, entry_of_event}
+use Rattle.held_lines.proofs.HeadReading.{read_from_same}
+use Rattle.run_lists.specs.Listed.{coef_row, derived_row, event_row}
+use Rattle.page_lists.proofs.HeadLists.{kept_same}
+use Rattle.page_lists.proofs.HeadTold.{run_held, head_told}
+use Rattle.page_lists.proofs.heads.head_of.Goals as goal
+
+pub returns : goal.returns
+returns c t listed =
+    let lists = c.args.lists.now in
+    let run : ℕ = c.args.run in
+    let held = run_held t lists listed run c.deref.result.now c.deref.ensures.value (sym c.is_listed.ensures ∙ c.if-not-is_listed.false) in
+    let events = subst (λ rows. IsPermutation rows (map entry_of_event c.in_ok-events.events.items))
+    (kept_same event_row (λ (e : EventRow). e.run == run) event_of_line c.of_run.result.now lists.events c.of_run.ensures.all) c.in_ok-events.ensures in
+    let derived = subst (λ rows. IsPermutation rows (map derived_place c.in_ok-derived.derived.items))
+    (kept_same derived_row (λ (d : DerivedRow). d.run == run) name_of_line c.of_run-2.result.now lists.derived c.of_run-2.ensures.all) c.in_ok-derived.ensures in
+    let coefs = subst (λ rows. IsPermutation rows (map entry_of_coef c.in_ok-coefs.coefs.items))
+    (kept_same coef_row (λ (r : CoefRow). r.run == run) coef_of_line c.of_run-3.result.now lists.coefs c.of_run-3.ensures.all) c.in_ok-coefs.ensures in
+    IfOk-weaker c.head_in.result _ _ (λ head read.
+    head_told t lists listed run head c.in_ok-events.events.items c.in_ok-derived.derived.items c.in_ok-coefs.coefs.items held
+    (read_from_same head _ _ _ _ _ _ c.deref-2.ensures.value c.deref-3.ensures.value c.deref-4.ensures.value read) events derived coefs) c.head_in.ensures.read

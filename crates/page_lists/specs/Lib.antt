@@ -1,0 +1,9 @@
+pub mod Among
+pub mod Indexed
+pub mod Meta
+pub mod Names
+pub mod Opening
+pub mod Shown
+pub mod Sizes
+pub mod Texts
+pub mod Walks

@@ -1,8 +1,0 @@
-use Rattle.std.proofs.Common.{◌≡◌, ◌∷◌, [], map, take}
-use Rattle.sqlite_value.specs.declared.value.Value.TheVariants.{Blob}
-use Rattle.store_schema.specs.Tables.{number}
-use Rattle.page_runs.specs.Indexed.{derived_name_key}
-use Rattle.page_runs.proofs.index_keys.derived_names.Given as goal
-
-abbrev pub invariant-loop-event : goal.invariant-loop-event
-invariant-loop-event l = map (λ k. number k.0 ∷ Blob k.1.now ∷ []) l.keys.items ≡ map derived_name_key (take l.event-index l.derived)

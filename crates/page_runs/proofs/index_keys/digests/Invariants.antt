@@ -1,7 +1,0 @@
-use Rattle.std.proofs.Common.{◌≡◌, ◌∷◌, [], map, take}
-use Rattle.sqlite_value.specs.declared.value.Value.TheVariants.{Blob}
-use Rattle.page_runs.specs.Indexed.{digest_key}
-use Rattle.page_runs.proofs.index_keys.digests.Given as goal
-
-abbrev pub invariant-loop-run : goal.invariant-loop-run
-invariant-loop-run l = map (λ k. Blob k.now ∷ []) l.keys.items ≡ map digest_key (take l.run-index l.runs)

@@ -1,5 +1,0 @@
-use Rattle.sqlite_wal.specs.Files.{image_at}
-use Rattle.program_stores.proofs.beside.store_beside_in.Goals as goal
-
-pub returns : goal.returns
-returns g c = c.in_ok-store_in.ensures (image_at g.S.Start) c.in_ok-files_beside.ensures

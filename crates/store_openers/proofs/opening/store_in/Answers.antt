@@ -1,0 +1,18 @@
+use Rattle.std.proofs.Common.{Result, Ok, Err, IfOk, subst}
+use Rattle.store_openers.specs.Opened.{IsOver}
+use Rattle.store_openers.proofs.opening.store_in.Goals as goal
+
+all_ok : {T E : Type 0} {P Q R S : T → Type 0} (r : Result T E) → IfOk r P → IfOk r Q → IfOk r R → ((x : T) → P x → Q x → R x → S x) → IfOk r S
+all_ok (Ok x) p q s f = f x p q s
+all_ok (Err e) p q s f = tt
+
+pub returns : goal.returns
+returns g c = λ image shown.
+    all_ok c.open.result c.open.ensures.honest c.open.ensures.size c.open.ensures.represents (λ store honest size represents faithful.
+    subst (λ it. IsOver it store) (shown.shows (honest faithful)) (record {
+      size = size faithful;
+      has = λ h holds. record {
+        legal = holds.legal;
+        represents = λ usable. record { t = holds.t; represents = represents faithful holds.t holds.holds holds.agrees.in_order; agrees = holds.agrees };
+      };
+    }))
