@@ -40,8 +40,8 @@ def words_of(tried, requests, port, store="s.db"):
 class Server:
     """A running server of a store in the folder in which a part is tried."""
 
-    def __init__(self, tried, requests=1000, port=0, **more):
-        self.process = subprocess.Popen(words_of(tried, requests, port, **more), stdin=subprocess.DEVNULL,
+    def __init__(self, tried, requests=1000, port=0, environment=None, **more):
+        self.process = subprocess.Popen(words_of(tried, requests, port, **more), stdin=subprocess.DEVNULL, env=environment,
                                         stdout=subprocess.PIPE, stderr=subprocess.PIPE, bufsize=0)
         self.late = threading.Timer(SECONDS, self.process.kill)
         self.late.start()
