@@ -1,10 +1,9 @@
-// What opens the store at a path. What is called at the type of a store takes a third of a minute to prove at each call: so
-// what is done with one is written over any kind of file, here or in `store_openers`.
+// What opens the store at a path, over any kinds of files.
 ghost use Rattle.std.specs.Prelude.{true, false, IfOk};
 ghost use Rattle.sqlite_wal.specs.Files.{image_at};
 ghost use Rattle.store_openers.specs.Opened.{IsStoreOf};
 
-use crate::files::{StoreFile, files_alone, files_beside, files_to_change};
+use crate::files::FileKinds;
 use crate::refusing::{PAGES_TO_READ, unopened, unread};
 use files_to_read::{Standing, open_to_look, open_to_read};
 use page_runs::PageRuns;
@@ -17,54 +16,54 @@ use store_paths::{NotOpened, Openings, Patience, files_at, look_at, make_missing
 /// appended, but names and their index are written where they fall.
 const PAGES_TO_CHANGE: usize = 500;
 
-/// Opens the store at a path of the host. `S` says what its files hold as they are opened.
-pub struct PathOpener<S: Openings> {
-    _openings: PhantomData<S>,
+/// Opens the store at a path of the host, over files of these kinds.
+pub struct PathOpener<K: FileKinds> {
+    _kinds: PhantomData<K>,
 }
 
-impl<S: Openings> Opener for PathOpener<S> {
+impl<K: FileKinds> Opener for PathOpener<K> {
     ghost use Rattle.sqlite_wal.specs.Files.{image_at};
 
-    type File = StoreFile<S>;
+    type File = K::File;
 
-    ghost image = { image_at S.Start };
+    ghost image = { image_at K.Opened.Start };
 
     fn make_missing(rt: &HostRuntime, path: &str, patience: Patience) -> Result<bool, NotOpened> {
-        make_missing_at::<S>(rt, path, patience)
+        make_missing_at::<K::Opened>(rt, path, patience)
     }
 
     fn look(rt: &HostRuntime, path: &str, patience: Patience) -> Result<(), NotOpened> {
-        look_at::<S>(rt, path, patience)
+        look_at::<K::Opened>(rt, path, patience)
     }
 
     fn may_be_changed(rt: &HostRuntime, path: &str) -> bool {
         let (Ok(files), Ok(options)) = (
-            open_to_look(rt, path, S::next()),
+            open_to_look(rt, path, K::Opened::next()),
             options_for(rt, PAGES_TO_READ),
         ) else {
             return false;
         };
-        match files_beside(rt.alloc(), files) {
+        match K::beside(rt.alloc(), files) {
             Ok(files) => may_be_changed_in(rt.alloc(), files, options),
             Err(_) => false,
         }
     }
 
-    fn beside(rt: &HostRuntime, path: &str) -> Result<(PageRuns<StoreFile<S>>, Standing), Unread> {
+    fn beside(rt: &HostRuntime, path: &str) -> Result<(PageRuns<K::File>, Standing), Unread> {
         let Ok(options) = options_for(rt, PAGES_TO_READ) else {
             return Err(Unread::Unfit);
         };
-        let (files, standing) = match open_to_read(rt, path, S::next()) {
+        let (files, standing) = match open_to_read(rt, path, K::Opened::next()) {
             Ok(opened) => opened,
             Err(why) => return Err(unopened(why)),
         };
-        let files = match files_beside(rt.alloc(), files) {
+        let files = match K::beside(rt.alloc(), files) {
             Ok(files) => files,
-            Err(why) => return Err(unread::<S>(rt, path, &standing, why)),
+            Err(why) => return Err(unread::<K>(rt, path, &standing, why)),
         };
         match store_in(rt.alloc(), files, options, 0) {
             Ok(store) => kept_beside(store, standing),
-            Err(why) => Err(unread::<S>(rt, path, &standing, why.into())),
+            Err(why) => Err(unread::<K>(rt, path, &standing, why.into())),
         }
     }
 
@@ -72,8 +71,8 @@ impl<S: Openings> Opener for PathOpener<S> {
         rt: &HostRuntime,
         path: &str,
         patience: Patience,
-    ) -> Result<PageRuns<StoreFile<S>>, NotOpened> {
-        let files = files_alone(rt.alloc(), files_at(rt, path, patience)?)?;
+    ) -> Result<PageRuns<K::File>, NotOpened> {
+        let files = K::alone(rt.alloc(), files_at(rt, path, patience)?)?;
         let options = options_for(rt, PAGES_TO_READ)?;
         Ok(store_in(rt.alloc(), files, options, 0)?)
     }
@@ -83,8 +82,8 @@ impl<S: Openings> Opener for PathOpener<S> {
         path: &str,
         patience: Patience,
         cells_to_keep: usize,
-    ) -> Result<PageRuns<StoreFile<S>>, NotOpened> {
-        let files = files_to_change(files_at(rt, path, patience)?);
+    ) -> Result<PageRuns<K::File>, NotOpened> {
+        let files = K::to_change(files_at(rt, path, patience)?);
         let options = options_for(rt, PAGES_TO_CHANGE)?;
         store_to_change_in(rt.alloc(), files, options, cells_to_keep)
     }

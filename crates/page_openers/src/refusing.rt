@@ -1,7 +1,7 @@
 // Why the store at a path is not read beside others, as its database says: it is opened by SQL over files that are only read.
 ghost use Rattle.std.specs.Prelude.{IsTrue};
 
-use crate::files::{Unshown, files_beside};
+use crate::files::{FileKinds, Unshown};
 use files_to_read::{Standing, Unopened, open_to_read};
 use prof_store::OpenError;
 use sqlite_disk::{Disk, Files};
@@ -63,22 +63,22 @@ fn refused_in<D: Disk + Drop>(
 }
 
 /// The same of the store at a path. `Unfit` where its log cannot be held in memory.
-fn refused_at<S: Openings>(rt: &HostRuntime, path: &str) -> Unread {
+fn refused_at<K: FileKinds>(rt: &HostRuntime, path: &str) -> Unread {
     let Ok(options) = options_for(rt, PAGES_TO_READ) else {
         return Unread::Unfit;
     };
-    let (files, standing) = match open_to_read(rt, path, S::next()) {
+    let (files, standing) = match open_to_read(rt, path, K::Opened::next()) {
         Ok(opened) => opened,
         Err(why) => return unopened(why),
     };
-    match files_beside(rt.alloc(), files) {
+    match K::beside(rt.alloc(), files) {
         Ok(files) => refused_in(rt, files, options, &standing),
         Err(_) => Unread::Unfit,
     }
 }
 
 /// What comes of a store at a path that cannot be read beside others, where this was found.
-pub(crate) fn unread<S: Openings>(
+pub(crate) fn unread<K: FileKinds>(
     rt: &HostRuntime,
     path: &str,
     standing: &Standing,
@@ -88,6 +88,6 @@ pub(crate) fn unread<S: Openings>(
         Unshown::Memory => Unread::Refused(OpenError::Memory.into()),
         _ if !has_stood(rt, standing) => Unread::Moved,
         Unshown::Unheld => Unread::Unfit,
-        Unshown::Store => refused_at::<S>(rt, path),
+        Unshown::Store => refused_at::<K>(rt, path),
     }
 }
