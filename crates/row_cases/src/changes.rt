@@ -1,7 +1,7 @@
 // Imports, removals and groups, and what is refused.
 use crate::bytes::Endless;
 use crate::files::{ADDRESSES, CALLS, GREATEST, ONE, TOTALS};
-use crate::steps::{ask, empty, import, import_folded, print, print_within};
+use crate::steps::{Visit, ask, import, import_folded, print, print_within, visit_empty};
 use prof_library::{
     Answer, Command, Key, Kind, Limits, Query, Refusal, RunStore, Selection, Warehouse, status_of,
 };
@@ -164,9 +164,18 @@ pub fn one_group_and_no_more(alloc: Global) -> Result<(), Fail> {
     )
 }
 
-fn is_too_long<S: RunStore>(alloc: Global, warehouse: &mut Warehouse<S>) -> bool {
-    let answer = warehouse.import(alloc, Kind::Callgrind, b"a.out", &mut Endless);
-    matches!(answer, Answer::Refused(Refusal::TooLong))
+/// The import of a file that has no end.
+#[derive(Drop)]
+struct EndlessImport;
+
+impl Visit for EndlessImport {
+    fn visit<S: RunStore>(self, alloc: Global, warehouse: &mut Warehouse<S>) -> Result<(), Fail> {
+        let answer = warehouse.import(alloc, Kind::Callgrind, b"a.out", &mut Endless);
+        if !matches!(answer, Answer::Refused(Refusal::TooLong)) {
+            Err("an endless file is not too long")?;
+        }
+        Ok(())
+    }
 }
 
 pub fn a_file_without_an_end(alloc: Global) -> Result<(), Fail> {
@@ -177,9 +186,5 @@ pub fn a_file_without_an_end(alloc: Global) -> Result<(), Fail> {
         groups: standard.groups,
         numbers: standard.numbers,
     };
-    let mut warehouse = empty(alloc, limits)?;
-    if !is_too_long(alloc, &mut warehouse) {
-        Err("an endless file is not too long")?;
-    }
-    Ok(())
+    visit_empty(alloc, limits, EndlessImport)
 }

@@ -3,7 +3,7 @@ use crate::bytes::Bytes;
 use prof_library::{
     Command, Cut, Key, Kind, Limits, Query, RunStore, Selection, SqlRuns, Store, Warehouse, line_of,
 };
-use sqlite::{Connection, MemStore};
+use sqlite::Connection;
 use std::alloc::Global;
 use std::test::Fail;
 
@@ -101,8 +101,19 @@ pub(crate) fn ask(query: Query<&'static [u8]>) -> Command<Bytes, &'static [u8]> 
     Command::Ask(query)
 }
 
-/// A warehouse over an empty store in memory. No guarantee: the tests see what it answers, here and below.
-pub(crate) fn empty(alloc: Global, limits: Limits) -> Result<Warehouse<SqlRuns<MemStore>>, Fail> {
+/// What is done over a warehouse. It is written over any store: what is called at the type of one takes a third of a minute to
+/// prove at each call, so that is done in one place.
+pub(crate) trait Visit {
+    /// Does it, and fails where something else is found than is wanted.
+    fn visit<S: RunStore>(self, alloc: Global, warehouse: &mut Warehouse<S>) -> Result<(), Fail>;
+}
+
+/// Visits a warehouse over an empty store in memory.
+pub(crate) fn visit_empty<V: Visit + Drop>(
+    alloc: Global,
+    limits: Limits,
+    visit: V,
+) -> Result<(), Fail> {
     let conn = match Connection::open_in_memory(alloc) {
         Ok(conn) => conn,
         Err(_) => Err("no database")?,
@@ -111,7 +122,8 @@ pub(crate) fn empty(alloc: Global, limits: Limits) -> Result<Warehouse<SqlRuns<M
         Ok(store) => store,
         Err(_) => Err("no store")?,
     };
-    Ok(Warehouse::new(SqlRuns { store }, limits))
+    let mut warehouse = Warehouse::new(SqlRuns { store }, limits);
+    visit.visit(alloc, &mut warehouse)
 }
 
 /// The file that a command reads, or none.
@@ -122,21 +134,24 @@ fn source_of(command: &Command<Bytes, &'static [u8]>) -> Bytes {
     }
 }
 
-/// Does commands one after another, and fails with what one should have printed and did not.
-fn do_steps<S: RunStore>(
-    alloc: Global,
-    warehouse: &mut Warehouse<S>,
-    steps: &[Step],
-) -> Result<(), Fail> {
-    for (command, wanted) in steps {
-        let mut source = source_of(command);
-        let answer = warehouse.perform(alloc, command, &mut source);
-        let line = line_of(alloc, &answer)?;
-        if line.as_slice() != wanted.as_bytes() {
-            Err(*wanted)?;
+/// Commands, one after another: what one should have printed and did not is the failure.
+#[derive(Drop)]
+struct Steps<'s> {
+    steps: &'s [Step],
+}
+
+impl Visit for Steps<'_> {
+    fn visit<S: RunStore>(self, alloc: Global, warehouse: &mut Warehouse<S>) -> Result<(), Fail> {
+        for (command, wanted) in self.steps {
+            let mut source = source_of(command);
+            let answer = warehouse.perform(alloc, command, &mut source);
+            let line = line_of(alloc, &answer)?;
+            if line.as_slice() != wanted.as_bytes() {
+                Err(*wanted)?;
+            }
         }
+        Ok(())
     }
-    Ok(())
 }
 
 /// Commands over an empty store, under the limits of the program.
@@ -146,6 +161,5 @@ pub(crate) fn print(alloc: Global, steps: &[Step]) -> Result<(), Fail> {
 
 /// Commands over an empty store, under these limits.
 pub(crate) fn print_within(alloc: Global, limits: Limits, steps: &[Step]) -> Result<(), Fail> {
-    let mut warehouse = empty(alloc, limits)?;
-    do_steps(alloc, &mut warehouse, steps)
+    visit_empty(alloc, limits, Steps { steps })
 }
