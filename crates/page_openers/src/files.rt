@@ -1,163 +1,181 @@
-// Files of one type, however a store is opened. What is called at the type of the files of a store takes a third of a minute to
-// prove at each call: so such calls stand here alone, and all else is written over any `FileKinds`.
-ghost use Rattle.std.specs.Prelude.{true, false, IfOk};
+// Files of one type, however a store is opened. What is called at the type of the files of a host takes a third of a minute to
+// prove at each call: so such calls stand here alone, and all else is written over any `FileOpener`.
+ghost use Rattle.std.specs.Prelude.{true, false, IfOk, IfSome};
 ghost use Rattle.sqlite_wal.specs.Files.{image_at};
+ghost use Rattle.sqlite_wal.specs.Recovery.{Image};
 ghost use Rattle.read_only_disks.specs.Untouched.{IsUntouched};
-ghost use Rattle.sqlite_std_file.specs.File.{IsFresh};
-ghost use Rattle.files_to_read.specs.File.{IsFresh as IsFreshBeside};
 ghost use Rattle.store_openers.specs.Opened.{ShowImage};
 
 use either_disks::{EitherDisk, as_one, as_other};
-use files_to_read::FileOf;
-use plain_tables::StoreError;
+use files_to_read::{FileOf, Standing, Unopened, open_to_look, open_to_read};
 use prof_store::OpenError;
 use read_only_disks::{ReadOnly, read_only};
 use sqlite_disk::{Disk, Files as DiskFiles, Start};
 use sqlite_std_file::FileFrom;
 use std::alloc::Global;
 use std::marker::PhantomData;
-use store_paths::{NotOpened, Openings};
+use std::rt::HostRuntime;
+use store_openers::{Unread, has_stood};
+use store_paths::{NotOpened, Openings, Patience, files_at, look_at, make_missing_at};
 
 /// The longest log that is read whole into memory, in bytes: 64 MiB. A longer one is recovered in its file.
 const LONGEST_LOG: usize = 0x400_0000;
 
-/// Why the store in files is not read from its pages.
-#[derive(Clone, Copy, Debug, PartialEq, Eq)]
-pub enum Unshown {
-    /// Its log cannot be held in memory: it is too long, or cannot be read whole.
-    Unheld,
-    /// Memory was refused.
-    Memory,
-    /// The files are not plainly a store of this version. Their database says why.
-    Store,
-}
-
-impl From<StoreError> for Unshown {
-    fn from(error: StoreError) -> Unshown {
-        match error {
-            StoreError::Memory => Unshown::Memory,
-            StoreError::Store => Unshown::Store,
-        }
-    }
-}
-
-impl From<Unshown> for NotOpened {
-    fn from(unshown: Unshown) -> NotOpened {
-        match unshown {
-            Unshown::Memory => OpenError::Memory.into(),
-            Unshown::Unheld | Unshown::Store => OpenError::Store.into(),
-        }
-    }
-}
-
-/// The kinds of files that a store may be opened over, taken for one type, so that what is done over a store is compiled once.
-pub trait FileKinds {
-    /// What the files at a path hold as they are opened.
-    type Opened: Openings;
-
-    /// A file of any of these kinds.
+/// Opens the files of the store at a path: to be changed, or only read, alone or beside others. They are of one type, so that
+/// what is done over a store is compiled once.
+pub trait FileOpener {
+    /// One of the files.
     type File: Disk + Drop;
 
-    /// Files that were opened to be changed, with no other beside.
-    fn to_change(files: DiskFiles<FileFrom<Self::Opened>>) -> DiskFiles<Self::File>
-        requires { IsFresh true files.log × IsFresh false files.db }
-        ensures { ShowImage Self.File.Disk (image_at Self.Opened.Start) result };
+    /// What they show as they are opened.
+    ghost image: { Image };
 
-    /// Files that were opened to be changed, and are only read: not a byte of them is written.
+    /// Makes a store where there is none, as `make_missing_at`.
+    fn make_missing(rt: &HostRuntime, path: &str, patience: Patience) -> Result<bool, NotOpened>;
+
+    /// Looks at the store by SQL, as `look_at`.
+    fn look(rt: &HostRuntime, path: &str, patience: Patience) -> Result<(), NotOpened>;
+
+    /// The files, to be changed with no other beside, who is waited for.
+    fn to_change(
+        rt: &HostRuntime,
+        path: &str,
+        patience: Patience,
+    ) -> Result<DiskFiles<Self::File>, NotOpened>
+        ensures { IfOk result (ShowImage Self.File.Disk image) };
+
+    /// The same, only to be read: not a byte of them is written. `Store` where their log cannot be held in memory.
     fn alone(
-        alloc: Global,
-        files: DiskFiles<FileFrom<Self::Opened>>,
-    ) -> Result<DiskFiles<Self::File>, Unshown>
-        requires { IsFresh true files.log × IsFresh false files.db }
-        ensures { IfOk result (ShowImage Self.File.Disk (image_at Self.Opened.Start)) };
+        rt: &HostRuntime,
+        path: &str,
+        patience: Patience,
+    ) -> Result<DiskFiles<Self::File>, NotOpened>
+        ensures { IfOk result (ShowImage Self.File.Disk image) };
 
-    /// Files that were opened to be read beside others.
-    fn beside(
-        alloc: Global,
-        files: DiskFiles<FileOf<Self::Opened>>,
-    ) -> Result<DiskFiles<Self::File>, Unshown>
-        requires { IsFreshBeside true files.log × IsFreshBeside false files.db }
-        ensures { IfOk result (ShowImage Self.File.Disk (image_at Self.Opened.Start)) };
+    /// The files, to be read beside others, and what they were.
+    fn beside(rt: &HostRuntime, path: &str) -> Result<(DiskFiles<Self::File>, Standing), Unread>
+        ensures { IfOk result (λ opened. ShowImage Self.File.Disk image opened.0) };
+
+    /// The files, to be looked at, whoever writes them meanwhile.
+    fn to_look(rt: &HostRuntime, path: &str) -> Option<DiskFiles<Self::File>>
+        ensures { IfSome result (ShowImage Self.File.Disk image) };
 }
 
-/// Files that are only read from now on, as `read_only`.
-fn only_read<D: Disk + Drop, S: Start>(
-    alloc: Global,
-    files: DiskFiles<D>,
-) -> Result<DiskFiles<ReadOnly<D, S>>, Unshown>
-    requires log { IsUntouched D.Disk S.Start.log files.log }
-    requires db { IsUntouched D.Disk S.Start.db files.db }
-    ensures { IfOk result (ShowImage ⟦<ReadOnly<D, S> as Disk>⟧ (image_at S.Start)) }
-{
-    match read_only(alloc, files, LONGEST_LOG) {
-        Some(files) => Ok(files),
-        None => Err(Unshown::Unheld),
-    }
-}
-
-/// The same, taken for the second of three kinds.
+/// Files that are only read from now on, as `read_only`, taken for the second of three kinds.
 fn read_as_second<D: Disk + Drop, S: Start, A: Disk, C: Disk>(
     alloc: Global,
     files: DiskFiles<D>,
-) -> Result<DiskFiles<EitherDisk<A, EitherDisk<ReadOnly<D, S>, C>>>, Unshown>
+) -> Option<DiskFiles<EitherDisk<A, EitherDisk<ReadOnly<D, S>, C>>>>
     requires log { IsUntouched D.Disk S.Start.log files.log }
     requires db { IsUntouched D.Disk S.Start.db files.db }
-    ensures { IfOk result (ShowImage ⟦<EitherDisk<A, EitherDisk<ReadOnly<D, S>, C>> as Disk>⟧ (image_at S.Start)) }
+    ensures { IfSome result (ShowImage ⟦<EitherDisk<A, EitherDisk<ReadOnly<D, S>, C>> as Disk>⟧ (image_at S.Start)) }
 {
-    let files = only_read(alloc, files)?;
-    Ok(as_other(as_one(files)))
+    let files = read_only(alloc, files, LONGEST_LOG)?;
+    Some(as_other(as_one(files)))
 }
 
 /// The same, taken for the third.
 fn read_as_third<D: Disk + Drop, S: Start, A: Disk, B: Disk>(
     alloc: Global,
     files: DiskFiles<D>,
-) -> Result<DiskFiles<EitherDisk<A, EitherDisk<B, ReadOnly<D, S>>>>, Unshown>
+) -> Option<DiskFiles<EitherDisk<A, EitherDisk<B, ReadOnly<D, S>>>>>
     requires log { IsUntouched D.Disk S.Start.log files.log }
     requires db { IsUntouched D.Disk S.Start.db files.db }
-    ensures { IfOk result (ShowImage ⟦<EitherDisk<A, EitherDisk<B, ReadOnly<D, S>>> as Disk>⟧ (image_at S.Start)) }
+    ensures { IfSome result (ShowImage ⟦<EitherDisk<A, EitherDisk<B, ReadOnly<D, S>>> as Disk>⟧ (image_at S.Start)) }
 {
-    let files = only_read(alloc, files)?;
-    Ok(as_other(as_other(files)))
+    let files = read_only(alloc, files, LONGEST_LOG)?;
+    Some(as_other(as_other(files)))
 }
 
-/// A file of a host: to be changed, or only read, alone or beside others. `S` says what it holds.
+/// Why files are not read beside others. No guarantee: of the files at a path the checker knows nothing.
+fn unopened(why: Unopened) -> Unread {
+    match why {
+        Unopened::Moved => Unread::Moved,
+        Unopened::OutOfMemory => Unread::Refused(OpenError::Memory.into()),
+        Unopened::Io(_) | Unopened::Unfit => Unread::Unfit,
+    }
+}
+
+/// Files with what they were, where their log is held in memory. A log that is too long, or cannot be read whole, is that of
+/// files that are not to be read so, unless others write it.
+fn held_beside<D: Disk>(
+    rt: &HostRuntime,
+    files: Option<DiskFiles<D>>,
+    standing: Standing,
+) -> Result<(DiskFiles<D>, Standing), Unread>
+    ensures { (image : Image) → IfSome files (ShowImage D.Disk image) → IfOk result (λ held. ShowImage D.Disk image held.0) }
+{
+    match files {
+        Some(files) => Ok((files, standing)),
+        None if has_stood(rt, &standing) => Err(Unread::Unfit),
+        None => Err(Unread::Moved),
+    }
+}
+
+/// A file of a host, of any of the three kinds. `S` says what it holds.
 pub type HostFile<S> = EitherDisk<
     FileFrom<S>,
     EitherDisk<ReadOnly<FileFrom<S>, S>, ReadOnly<FileOf<S>, S>>,
 >;
 
-/// The kinds of files of a host.
-pub struct HostKinds<S: Openings> {
+/// Opens files of a host.
+pub struct HostOpener<S: Openings> {
     _openings: PhantomData<S>,
 }
 
-impl<S: Openings> FileKinds for HostKinds<S> {
-    type Opened = S;
+impl<S: Openings> FileOpener for HostOpener<S> {
+    ghost use Rattle.sqlite_wal.specs.Files.{image_at};
 
     type File = HostFile<S>;
 
-    fn to_change(files: DiskFiles<FileFrom<S>>) -> DiskFiles<HostFile<S>>
-        requires { IsFresh true files.log × IsFresh false files.db }
-        ensures { ShowImage ⟦<HostFile<S> as Disk>⟧ (image_at S.Start) result }
+    ghost image = { image_at S.Start };
+
+    fn make_missing(rt: &HostRuntime, path: &str, patience: Patience) -> Result<bool, NotOpened> {
+        make_missing_at::<S>(rt, path, patience)
+    }
+
+    fn look(rt: &HostRuntime, path: &str, patience: Patience) -> Result<(), NotOpened> {
+        look_at::<S>(rt, path, patience)
+    }
+
+    fn to_change(
+        rt: &HostRuntime,
+        path: &str,
+        patience: Patience,
+    ) -> Result<DiskFiles<HostFile<S>>, NotOpened>
+        ensures { IfOk result (ShowImage ⟦<HostFile<S> as Disk>⟧ (image_at S.Start)) }
     {
-        as_one(files)
+        Ok(as_one(files_at::<S>(rt, path, patience)?))
     }
 
     fn alone(
-        alloc: Global,
-        files: DiskFiles<FileFrom<S>>,
-    ) -> Result<DiskFiles<HostFile<S>>, Unshown>
-        requires { IsFresh true files.log × IsFresh false files.db }
+        rt: &HostRuntime,
+        path: &str,
+        patience: Patience,
+    ) -> Result<DiskFiles<HostFile<S>>, NotOpened>
         ensures { IfOk result (ShowImage ⟦<HostFile<S> as Disk>⟧ (image_at S.Start)) }
     {
-        read_as_second(alloc, files)
+        match read_as_second(rt.alloc(), files_at::<S>(rt, path, patience)?) {
+            Some(files) => Ok(files),
+            None => Err(OpenError::Store.into()),
+        }
     }
 
-    fn beside(alloc: Global, files: DiskFiles<FileOf<S>>) -> Result<DiskFiles<HostFile<S>>, Unshown>
-        requires { IsFreshBeside true files.log × IsFreshBeside false files.db }
-        ensures { IfOk result (ShowImage ⟦<HostFile<S> as Disk>⟧ (image_at S.Start)) }
+    fn beside(rt: &HostRuntime, path: &str) -> Result<(DiskFiles<HostFile<S>>, Standing), Unread>
+        ensures { IfOk result (λ opened. ShowImage ⟦<HostFile<S> as Disk>⟧ (image_at S.Start) opened.0) }
     {
-        read_as_third(alloc, files)
+        match open_to_read(rt, path, S::next()) {
+            Ok((files, standing)) => { held_beside(rt, read_as_third(rt.alloc(), files), standing) }
+            Err(why) => Err(unopened(why)),
+        }
+    }
+
+    fn to_look(rt: &HostRuntime, path: &str) -> Option<DiskFiles<HostFile<S>>>
+        ensures { IfSome result (ShowImage ⟦<HostFile<S> as Disk>⟧ (image_at S.Start)) }
+    {
+        match open_to_look(rt, path, S::next()) {
+            Ok(files) => read_as_third(rt.alloc(), files),
+            Err(_) => None,
+        }
     }
 }

@@ -8,5 +8,5 @@ mod files;
 // What opens the store at a path.
 mod openings;
 
-pub use files::{FileKinds, HostFile, HostKinds, Unshown};
+pub use files::{FileOpener, HostFile, HostOpener};
 pub use openings::PathOpener;

@@ -4,7 +4,7 @@
 ghost use Rattle.std.specs.Prelude.{true, [], None};
 
 use anyhow::Result;
-use page_openers::{HostKinds, PathOpener};
+use page_openers::{HostOpener, PathOpener};
 use program_stores::Outputs;
 use sqlite_disk::Start;
 use std::io;
@@ -53,5 +53,5 @@ impl<'a> Outputs for StandardOutput<'a> {
 
 fn main(rt: HostRuntime) -> Result<ExitCode> {
     let outputs = StandardOutput { rt: &rt };
-    program_stores::run::<PathOpener<HostKinds<HostFiles>>, StandardOutput>(&rt, &outputs)
+    program_stores::run::<PathOpener<HostOpener<HostFiles>>, StandardOutput>(&rt, &outputs)
 }

@@ -1,5 +1,4 @@
 use Rattle.std.proofs.Common.{◌≡◌, Result, Ok, Err, IfOk, subst, sym}
-use Rattle.sqlite_wal.specs.Files.{image_at}
 use Rattle.store_openers.specs.Opened.{IsStoreOf}
 use Rattle.page_openers.proofs.openings.PathOpenerOpener.beside.Goals as goal
 
@@ -10,4 +9,4 @@ kept P x (Err e) is p = tt
 
 pub returns-in-Ok-store_in : goal.returns-in-Ok-store_in
 returns-in-Ok-store_in g c =
-    kept (IsStoreOf (image_at g.K.Opened.Start)) c.in-Ok-store_in.store c.kept_beside.result c.kept_beside.ensures (c.in-Ok-store_in.ensures (image_at g.K.Opened.Start) c.in-Ok-beside.ensures)
+    kept (IsStoreOf g.F.FileOpener.image) c.in-Ok-store_in.store c.kept_beside.result c.kept_beside.ensures (c.in-Ok-store_in.ensures g.F.FileOpener.image c.in_ok-files.ensures)
