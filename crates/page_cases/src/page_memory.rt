@@ -80,6 +80,16 @@ fn made_again(alloc: Global) -> Result<PageRuns<Stopping>, &'static str> {
 
 pub fn memory_refused_to_change_pages(alloc: Global) -> Result<(), Fail> {
     let mut first = made_again(alloc)?;
-    let mut second = made_again(alloc)?;
-    change_both(&mut first, &mut second, alloc)
+    let mut second = match made_again(alloc) {
+        Ok(store) => store,
+        Err(end) => {
+            // (a store that is let go by a call is faster to prove, here and below)
+            drop(first);
+            return Err(end)?;
+        }
+    };
+    let changed = change_both(&mut first, &mut second, alloc);
+    drop(first);
+    drop(second);
+    changed
 }

@@ -51,7 +51,12 @@ impl<'a> Outputs for StandardOutput<'a> {
     }
 }
 
+/// Does what the words that the program was started with say, over the files of a host, whatever these hold.
+fn run<S: Openings, O: Outputs>(rt: &HostRuntime, outputs: &O) -> Result<ExitCode> {
+    program_stores::run::<PathOpener<HostOpener<S>>, O>(rt, outputs)
+}
+
 fn main(rt: HostRuntime) -> Result<ExitCode> {
     let outputs = StandardOutput { rt: &rt };
-    program_stores::run::<PathOpener<HostOpener<HostFiles>>, StandardOutput>(&rt, &outputs)
+    run::<HostFiles, StandardOutput>(&rt, &outputs)
 }

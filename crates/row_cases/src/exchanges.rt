@@ -57,13 +57,16 @@ fn exchange<S: RunStore>(
     status: u16,
     wanted: &'static str,
 ) -> Result<(), Fail> {
+    let router = routes(alloc)?;
     let client = Client {
         left: request,
         response: Vec::new(alloc),
     };
-    let router = routes(alloc)?;
     let (end, client) = answer(alloc, &router, room, client, warehouse);
-    if end != Exchange::Sent(status) || client.response.as_slice() != wanted.as_bytes() {
+    let is_wanted = end == Exchange::Sent(status)
+        && client.response.as_slice() == wanted.as_bytes();
+    drop((router, client));
+    if !is_wanted {
         Err(wanted)?;
     }
     Ok(())

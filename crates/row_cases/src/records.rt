@@ -67,11 +67,20 @@ impl Sink for Listed {
 fn records_of(alloc: Global, front: &'static [u8]) -> Result<Vec<Record>, Fail> {
     let mut reader = Reader::new(alloc)?;
     let mut listed = Listed::new(alloc);
-    if front.len() as u64 > reader.room() {
+    let fits = front.len() as u64 <= reader.room();
+    let fed = if fits {
+        reader.feed(front, &mut listed)
+    } else {
+        Ok(())
+    };
+    // (a reader that is let go by a call is faster to prove)
+    drop(reader);
+    let records = listed.records;
+    if !fits {
         Err("a large file")?;
     }
-    reader.feed(front, &mut listed)?;
-    Ok(listed.records)
+    fed?;
+    Ok(records)
 }
 
 pub fn records_come_in_the_order_of_their_lines(alloc: Global) -> Result<(), Fail> {
