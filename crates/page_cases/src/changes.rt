@@ -74,7 +74,11 @@ fn import<S: RunStore>(
 ) -> Result<(), StoreError> {
     let mut source = Given { left: text };
     match parse_file(alloc, kind, LONGEST, &mut source) {
-        Ok(parsed) => put_file(store, alloc, kind, &parsed),
+        Ok(parsed) => {
+            let put = put_file(store, alloc, kind, &parsed);
+            drop(parsed);
+            put
+        }
         Err(Unread::Memory) => Err(StoreError::Memory),
         Err(_) => Err(StoreError::Store),
     }

@@ -181,16 +181,31 @@ fn least_stops(change: Change, stops: Stops, pages: u64) -> u64 {
     }
 }
 
+/// Stops at each change of the files while a change of a store over an image is done, which writes so many pages.
+fn stops_within(
+    alloc: Global,
+    image: &Image,
+    change: Change,
+    stops: Stops,
+    pages: u64,
+) -> Result<(), Fail> {
+    let after = done(alloc, image, change)?;
+    let told = told_around(alloc, image, change, &after)?;
+    drop(after);
+    let count = stops_of(alloc, image, change, stops, &told);
+    drop(told);
+    if count? < least_stops(change, stops, pages) {
+        return Err("it writes too few pages")?;
+    }
+    Ok(())
+}
+
 /// Stops at each change of the files in each change of a store.
 fn all_stops(alloc: Global, stops: Stops) -> Result<(), Fail> {
     let mut image = new_store(alloc)?;
     for (change, pages) in CHANGES.into_iter().zip(PAGES) {
-        let after = done(alloc, &image, change)?;
-        let told = told_around(alloc, &image, change, &after)?;
-        if stops_of(alloc, &image, change, stops, &told)? < least_stops(change, stops, pages) {
-            return Err("it writes too few pages")?;
-        }
-        image = after;
+        stops_within(alloc, &image, change, stops, pages)?;
+        image = done(alloc, &image, change)?;
     }
     Ok(())
 }

@@ -88,7 +88,10 @@ pub(crate) fn told_by_pages<D: Disk + Drop>(
     files: Files<D>,
 ) -> Result<Vec<u8>, &'static str> {
     let mut store = pages_in(alloc, files)?;
-    match told_of_pages(&mut store, alloc) {
+    let told = told_of_pages(&mut store, alloc);
+    // (a store that is let go by a call is faster to prove)
+    drop(store);
+    match told {
         Ok(told) => Ok(told),
         Err(_) => Err("by its pages the store is not read"),
     }

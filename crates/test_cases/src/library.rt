@@ -112,10 +112,15 @@ fn read_into<S: Sink>(reader: Reader, text: &'static [u8], sink: &mut S) -> Resu
     requires { (IsSpent reader → ⊥) → Takes reader (S.last sink.old) (S.width sink.old) (S.known sink.old) }
 {
     let mut reader = reader;
+    // (a reader that is let go by a call is faster to prove)
     if text.len() as u64 > reader.room() {
+        drop(reader);
         return Err(Fail::from(AllocError));
     }
-    reader.feed(text, sink)?;
+    if let Err(end) = reader.feed(text, sink) {
+        drop(reader);
+        return Err(Fail::from(end));
+    }
     match reader.finish(sink) {
         Ok(_) => Ok(()),
         Err(_) => Err("a fault")?,
