@@ -28,7 +28,7 @@ class Compared:
     def same(self, command, store, *words, where=()):
         """One report over one store."""
         status, out = self.program(command, "--db", f"{store}.db", *where, *words)
-        if status == 2:
+        if status and not out:
             return  # (the program takes words of UTF-8 alone, and so has no report by these)
         done = self.asked(command, "--store", store, *where, *words)
         self.reports += 1
