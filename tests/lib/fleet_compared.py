@@ -1,4 +1,5 @@
 """Compares every report of fleet_ask with what profhouse says over the same runs, line by line: for tests/by_hand/fleet."""
+import os
 import re
 
 from fleet_stores import facts
@@ -7,6 +8,15 @@ from forked import ran
 KEYS = ("object", "file", "function", "line", "thread")
 # How many functions of a store are asked for their calls, and for their trend.
 FUNCTIONS, TRENDS = 60, 12
+
+
+def is_text(word):
+    """Whether a word of a command line is UTF-8."""
+    try:
+        os.fsencode(word).decode()
+    except UnicodeDecodeError:
+        return False
+    return True
 
 
 class Compared:
@@ -28,8 +38,10 @@ class Compared:
     def same(self, command, store, *words, where=()):
         """One report over one store."""
         status, out = self.program(command, "--db", f"{store}.db", *where, *words)
-        if status and not out:
-            return  # (the program takes words of UTF-8 alone, and so has no report by these)
+        if not all(map(is_text, words)):
+            # (the program takes words of UTF-8 alone, and so has no report by these)
+            self.tried.expect(f"{command} by words that are no text", (status, out), (1, b""))
+            return
         done = self.asked(command, "--store", store, *where, *words)
         self.reports += 1
         self.lines += out.count(b"\n")
