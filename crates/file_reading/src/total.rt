@@ -98,6 +98,11 @@ pub fn total_text(alloc: Global, bytes: &[u8]) -> Result<TotalText, AllocError>
     ensures { IfOk result (IsTotalOf bytes.now) }
 {
     let mut total = Total::new(alloc)?;
-    total.feed(bytes)?;
-    total.finish(alloc)
+    match total.feed(bytes) {
+        Ok(()) => total.finish(alloc),
+        Err(end) => {
+            drop(total);
+            Err(end)
+        }
+    }
 }

@@ -51,3 +51,9 @@ loop-done-preserved g c =
           subst (λ news. Edits (g.P.Pages.size c.args.store.now) schema (g.P.Pages.pages c.args.store.now) (g.P.Pages.pages new) t (place_all (insert_entry c.args.order) news)) (take_more_of given d n)
           (placed_more g.P.Pages new c.loop-done.invariant.kept (insert_entry c.args.order) names clean g.met.P.Pages.follows_trans (take d given) (drop d given) edits (All-drop (λ row. show row ≡ row) d given same) taken step);
     }
+
+pub returns-in_err-done-clause-kept : goal.returns-in_err-done-clause-kept
+returns-in_err-done-clause-kept g c = steps_on g.met.P.Pages.follows_trans c.loop-done.invariant.kept c.append_some_entries.ensures.kept
+
+pub returns-clause-kept : goal.returns-clause-kept
+returns-clause-kept g c = c.loop-done.invariant.kept

@@ -6,7 +6,7 @@ use Rattle.sqlite_btree.specs.Chain.{Entry}
 use Rattle.sqlite_btree.specs.Part.{ChangesOwn, IsPartOf, with_page}
 use Rattle.sqlite_btree.specs.Stored.{IsWhole, IsWritten, form_of}
 use Rattle.sqlite_btree.specs.Tree.{IsNode, cells_of}
-use Rattle.sqlite_btree.proofs.Results.{within_limit}
+use Rattle.sqlite_btree.proofs.Results.{within_limit, steps_on}
 use Rattle.sqlite_btree.proofs.TreeLemmas.{node_live}
 use Rattle.page_edits.specs.Filled.{IsFilled}
 use Rattle.page_edits.specs.Leaves.{leaf_of, HoldRows}
@@ -98,3 +98,24 @@ returns-then-count-eq0-clause-done g c = λ clean strict layout entries laid who
 
 pub returns-then-not-branch-clause-done : goal.returns-then-not-branch-clause-done
 returns-then-not-branch-clause-done g c = λ clean strict layout entries laid whole. none_taken (g.R.NewRows.rows c.args.rows.now) (c.copy.ensures.pages ∙ c.last_below.ensures.pages) laid whole
+
+pub returns-in_err-leaf-clause-kept : goal.returns-in_err-leaf-clause-kept
+returns-in_err-leaf-clause-kept g c = c.last_below.ensures.kept
+
+pub returns-in_err-bytes-clause-kept : goal.returns-in_err-bytes-clause-kept
+returns-in_err-bytes-clause-kept g c = steps_on g.met.P.Pages.follows_trans c.last_below.ensures.kept c.copy.ensures.kept
+
+pub returns-in_err-starts_after-clause-kept : goal.returns-in_err-starts_after-clause-kept
+returns-in_err-starts_after-clause-kept g c = steps_on g.met.P.Pages.follows_trans c.last_below.ensures.kept c.copy.ensures.kept
+
+pub returns-then-not-branch-clause-kept : goal.returns-then-not-branch-clause-kept
+returns-then-not-branch-clause-kept g c = steps_on g.met.P.Pages.follows_trans c.last_below.ensures.kept c.copy.ensures.kept
+
+pub returns-in_err-taken-clause-kept : goal.returns-in_err-taken-clause-kept
+returns-in_err-taken-clause-kept g c = steps_on g.met.P.Pages.follows_trans c.last_below.ensures.kept c.copy.ensures.kept
+
+pub returns-in_err-put-clause-kept : goal.returns-in_err-put-clause-kept
+returns-in_err-put-clause-kept g c = steps_on g.met.P.Pages.follows_trans (steps_on g.met.P.Pages.follows_trans c.last_below.ensures.kept c.copy.ensures.kept) c.put.ensures.kept
+
+pub returns-clause-kept : goal.returns-clause-kept
+returns-clause-kept g c = steps_on g.met.P.Pages.follows_trans (steps_on g.met.P.Pages.follows_trans c.last_below.ensures.kept c.copy.ensures.kept) c.put.ensures.kept

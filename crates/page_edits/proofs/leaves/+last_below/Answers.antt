@@ -2,7 +2,7 @@ use Rattle.std.proofs.Common.{◌≡◌, suc, sym, ap, subst, ◌∙◌, arith}
 use Rattle.sqlite_format.specs.declared.kind.Kind.{Kind}
 use Rattle.sqlite_btree.specs.Part.{IsPartOf}
 use Rattle.sqlite_btree.specs.Tree.{IsTop, is_leaf_at, right_of}
-use Rattle.sqlite_btree.proofs.Results.{so_ok}
+use Rattle.sqlite_btree.proofs.Results.{so_ok, steps_on}
 use Rattle.sqlite_btree.proofs.TreeLemmas.{IsTree-top, interior_height, last_tree, node_live}
 use Rattle.page_edits.specs.Filled.{last_leaf}
 use Rattle.page_edits.proofs.leaves.+last_below.Goals as goal
@@ -19,3 +19,27 @@ returns-clause-done g t c = λ clean form part height laid top shallow.
     so_ok c.last_below.result _ _ _ (g.P.Pages.faults c.load.new.store) _ ⊥ ⊥ (omega (arith, c.load.ensures.kept.more_faults)) (λ x. x)
     (c.last_below.ensures.done (omega (arith, clean)) form part down.0 (subst (IsPartOf part) (sym c.load.ensures.pages) laid) (subst (IsTop form part down.0) (sym right) below) (omega (arith, down.1)))
     (λ leaf is. is ∙ ap (last_leaf part down.0) right ∙ ap (λ h. last_leaf part h page) (sym down.1))
+
+pub returns-in_err-load-clause-kept : goal.returns-in_err-load-clause-kept
+returns-in_err-load-clause-kept g t c = c.load.ensures.kept
+
+pub returns-in_err-load-clause-pages : goal.returns-in_err-load-clause-pages
+returns-in_err-load-clause-pages g t c = c.load.ensures.pages
+
+pub returns-in_err-node-clause-kept : goal.returns-in_err-node-clause-kept
+returns-in_err-node-clause-kept g t c = c.load.ensures.kept
+
+pub returns-in_err-node-clause-pages : goal.returns-in_err-node-clause-pages
+returns-in_err-node-clause-pages g t c = c.load.ensures.pages
+
+pub returns-clause-kept : goal.returns-clause-kept
+returns-clause-kept g t c = steps_on g.met.P.Pages.follows_trans c.load.ensures.kept c.last_below.ensures.kept
+
+pub returns-clause-pages : goal.returns-clause-pages
+returns-clause-pages g t c = c.last_below.ensures.pages ∙ c.load.ensures.pages
+
+pub returns-then-node-clause-kept : goal.returns-then-node-clause-kept
+returns-then-node-clause-kept g t c = c.load.ensures.kept
+
+pub returns-then-node-clause-pages : goal.returns-then-node-clause-pages
+returns-then-node-clause-pages g t c = c.load.ensures.pages

@@ -8,7 +8,7 @@ use Rattle.sqlite_btree.specs.Loaded.{IsNodeOf}
 use Rattle.sqlite_btree.specs.Part.{ChangesOwn, IsPartOf, with_page}
 use Rattle.sqlite_btree.specs.Stored.{form_of}
 use Rattle.sqlite_btree.specs.Tree.{IsNode, cells_of, header_of}
-use Rattle.sqlite_btree.proofs.Results.{of_memory, within_limit}
+use Rattle.sqlite_btree.proofs.Results.{of_memory, within_limit, steps_on}
 use Rattle.sqlite_btree.proofs.TreeLemmas.{node_live}
 use Rattle.page_edits.specs.Trims.{HasTrimmed, HoldsAlone, IsBelow}
 use Rattle.page_edits.proofs.NewCells.{written_back}
@@ -123,3 +123,33 @@ returns-clause-done g c = λ clean order strict layout entries laid whole.
     let changed = c.in_ok-put.ensures.done clean layout.nodes (subst (IsPartOf layout.nodes) (sym c.copy.ensures.pages) found) (node_live node) in
     stored_trimmed Fact at n (pages c.args.store.now) (pages c.put.new.store) stored whole.1 strict laid below (omega (arith, within)) other facts
     (subst (λ p. ChangesOwn layout.nodes p (with_page layout.nodes leaf bytes) (pages c.put.new.store)) (c.copy.ensures.pages ∙ c.leaf_below.ensures.pages) changed)
+
+pub returns-in_err-leaf-clause-kept : goal.returns-in_err-leaf-clause-kept
+returns-in_err-leaf-clause-kept g c = c.leaf_below.ensures.kept
+
+pub returns-in_err-bytes-clause-kept : goal.returns-in_err-bytes-clause-kept
+returns-in_err-bytes-clause-kept g c = steps_on g.met.P.Pages.follows_trans c.leaf_below.ensures.kept c.copy.ensures.kept
+
+pub returns-in_err-node-clause-kept : goal.returns-in_err-node-clause-kept
+returns-in_err-node-clause-kept g c = steps_on g.met.P.Pages.follows_trans c.leaf_below.ensures.kept c.copy.ensures.kept
+
+pub returns-in_err-count-clause-kept : goal.returns-in_err-count-clause-kept
+returns-in_err-count-clause-kept g c = steps_on g.met.P.Pages.follows_trans c.leaf_below.ensures.kept c.copy.ensures.kept
+
+pub returns-then-count-lt2-clause-kept : goal.returns-then-count-lt2-clause-kept
+returns-then-count-lt2-clause-kept g c = steps_on g.met.P.Pages.follows_trans c.leaf_below.ensures.kept c.copy.ensures.kept
+
+pub returns-in_err-page-clause-kept : goal.returns-in_err-page-clause-kept
+returns-in_err-page-clause-kept g c = steps_on g.met.P.Pages.follows_trans c.leaf_below.ensures.kept c.copy.ensures.kept
+
+pub returns-in_err-build_without-clause-kept : goal.returns-in_err-build_without-clause-kept
+returns-in_err-build_without-clause-kept g c = steps_on g.met.P.Pages.follows_trans c.leaf_below.ensures.kept c.copy.ensures.kept
+
+pub returns-then-not-branch-clause-kept : goal.returns-then-not-branch-clause-kept
+returns-then-not-branch-clause-kept g c = steps_on g.met.P.Pages.follows_trans c.leaf_below.ensures.kept c.copy.ensures.kept
+
+pub returns-in_err-put-clause-kept : goal.returns-in_err-put-clause-kept
+returns-in_err-put-clause-kept g c = steps_on g.met.P.Pages.follows_trans (steps_on g.met.P.Pages.follows_trans c.leaf_below.ensures.kept c.copy.ensures.kept) c.put.ensures.kept
+
+pub returns-clause-kept : goal.returns-clause-kept
+returns-clause-kept g c = steps_on g.met.P.Pages.follows_trans (steps_on g.met.P.Pages.follows_trans c.leaf_below.ensures.kept c.copy.ensures.kept) c.put.ensures.kept

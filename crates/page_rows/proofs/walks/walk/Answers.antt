@@ -141,3 +141,45 @@ rows-preserved g c = (
   Continues-trans g.P.Pages g.met.P.Pages.follows_trans c.rows.invariant.1 c.advance.ensures.kept,
   c.advance.ensures.pages ∙ c.rows.invariant.2,
 )
+
+pub returns-in_err-advance-clause-kept : goal.returns-in_err-advance-clause-kept
+returns-in_err-advance-clause-kept g c = Continues-trans g.P.Pages g.met.P.Pages.follows_trans c.rows.invariant.1 c.advance.ensures.kept
+
+pub returns-in_err-advance-clause-pages : goal.returns-in_err-advance-clause-pages
+returns-in_err-advance-clause-pages g c = c.advance.ensures.pages ∙ c.rows.invariant.2
+
+pub returns-then-not-branch-clause-kept : goal.returns-then-not-branch-clause-kept
+returns-then-not-branch-clause-kept g c = Continues-trans g.P.Pages g.met.P.Pages.follows_trans c.rows.invariant.1 c.advance.ensures.kept
+
+pub returns-then-not-branch-clause-pages : goal.returns-then-not-branch-clause-pages
+returns-then-not-branch-clause-pages g c = c.advance.ensures.pages ∙ c.rows.invariant.2
+
+pub returns-then-rowid-next-clause-kept : goal.returns-then-rowid-next-clause-kept
+returns-then-rowid-next-clause-kept g c = Continues-trans g.P.Pages g.met.P.Pages.follows_trans c.rows.invariant.1 c.advance.ensures.kept
+
+pub returns-then-rowid-next-clause-pages : goal.returns-then-rowid-next-clause-pages
+returns-then-rowid-next-clause-pages g c = c.advance.ensures.pages ∙ c.rows.invariant.2
+
+pub returns-in-Ok-false-clause-kept : goal.returns-in-Ok-false-clause-kept
+returns-in-Ok-false-clause-kept g c = Continues-trans g.P.Pages g.met.P.Pages.follows_trans c.rows.invariant.1 c.advance.ensures.kept
+
+pub returns-in-Ok-false-clause-pages : goal.returns-in-Ok-false-clause-pages
+returns-in-Ok-false-clause-pages g c = c.advance.ensures.pages ∙ c.rows.invariant.2
+
+pub returns-in-Err-clause-kept : goal.returns-in-Err-clause-kept
+returns-in-Err-clause-kept g c = Continues-trans g.P.Pages g.met.P.Pages.follows_trans c.rows.invariant.1 c.advance.ensures.kept
+
+pub returns-in-Err-clause-pages : goal.returns-in-Err-clause-pages
+returns-in-Err-clause-pages g c = c.advance.ensures.pages ∙ c.rows.invariant.2
+
+pub returns-then-rowid-eq9223372036854775807-clause-kept : goal.returns-then-rowid-eq9223372036854775807-clause-kept
+returns-then-rowid-eq9223372036854775807-clause-kept g c = Continues-trans g.P.Pages g.met.P.Pages.follows_trans c.rows.invariant.1 c.advance.ensures.kept
+
+pub returns-then-rowid-eq9223372036854775807-clause-pages : goal.returns-then-rowid-eq9223372036854775807-clause-pages
+returns-then-rowid-eq9223372036854775807-clause-pages g c = c.advance.ensures.pages ∙ c.rows.invariant.2
+
+pub returns-clause-kept : goal.returns-clause-kept
+returns-clause-kept g c = c.rows.invariant.1
+
+pub returns-clause-pages : goal.returns-clause-pages
+returns-clause-pages g c = c.rows.invariant.2
