@@ -6,6 +6,5 @@ use test_cases::imports;
 fn imports_within_limits(rt: HostRuntime) -> Result<(), Fail> {
     let alloc = rt.alloc();
     imports::a_file_has_at_most_so_many_bytes(alloc)?;
-    imports::limits_made_small(alloc)?;
     imports::nothing_is_put_within_a_transaction(alloc)
 }

@@ -8,6 +8,5 @@ fn public_calls(rt: HostRuntime) -> Result<(), Fail> {
     library::fields_stand_between_blanks()?;
     library::derived_events_have_a_value(alloc)?;
     library::rows_of_a_file_have_their_names(alloc)?;
-    library::a_list_of_commands_is_answered(alloc)?;
     library::sums_may_be_fewer_than_events(alloc)
 }

@@ -117,8 +117,19 @@ pub fn small_limits(alloc: Global) -> Result<(), Fail> {
             (import(TOTALS), "run 1\n"),
             (import(CALLS), "run 2\n"),
             (import(ADDRESSES), "refused: full\n"),
+            // What is held, a fault, and a sum that does not fit come before a lack of room.
+            (import(TOTALS), "held 1\n"),
+            (
+                import(b"events: Ir\n1 2 3\n"),
+                "refused: line 2: F11 too many costs\n",
+            ),
+            (
+                import(b"events: Bc\n1 9223372036854775807\n2 1\n"),
+                "refused: overflow of self cost Bc\n",
+            ),
             (Command::Remove(1), "done\n"),
             (import(ADDRESSES), "refused: run numbers spent\n"),
+            (import(CALLS), "held 2\n"),
         ],
     )
 }

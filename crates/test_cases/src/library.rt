@@ -1,19 +1,14 @@
 // Public calls that a library's user has and the program does not make.
 ghost use Rattle.callgrind_reader.specs.Reads.{IsSpent, Takes};
 
-use crate::given::Given;
 use crate::holding::holds;
-use crate::stores::{StoreJob, done_over, empty};
 use callgrind_reader::{Reader, Sink};
 use cg_formulas::{FileHead, Flat};
 use cg_text::{ListVec, fields};
 use cost_reports::verify;
 use cost_rows::{ArcRow, CellRow, FileRows};
-use run_stores::RunStore;
-use shared_texts::SharedText;
 use std::alloc::{AllocError, Global};
 use std::test::Fail;
-use warehouse::{Answer, Command, Kind, Limits, Query, Refusal, Selection, Warehouse};
 
 pub fn fields_stand_between_blanks() -> Result<(), Fail> {
     let mut found = fields(b" ab\t\tc  d ");
@@ -137,83 +132,6 @@ fn rows_of(alloc: Global, text: &'static [u8]) -> Result<FileRows, Fail> {
 pub fn rows_of_a_file_have_their_names(alloc: Global) -> Result<(), Fail> {
     let rows = rows_of(alloc, CALLS)?;
     holds(are_of_calls(&rows), "other rows")
-}
-
-/// A file is imported, a source annotated, the run put into a group and removed.
-fn commands<'a>(alloc: Global) -> Result<Vec<Command<Given, &'a [u8]>>, AllocError> {
-    let import = Command::Import {
-        kind: Kind::Callgrind,
-        label: b"a".as_slice(),
-        source: Given::sound(b"events: Ir\nfl=a.c\nfn=f\n0 1\n1 2\n9 4\n", 7),
-    };
-    let annotate = Command::Annotate {
-        selection: Selection::All,
-        event: b"Ir".as_slice(),
-        file: b"a.c".as_slice(),
-        source: Given::sound(b"int x;", 7),
-    };
-    Ok(vec![in alloc;
-        import,
-        annotate,
-        Command::MakeGroup(b"g".as_slice()),
-        Command::Remove(2),
-        Command::Join(b"g".as_slice(), 1),
-        Command::Ask(Query::Groups),
-    ]?)
-}
-
-/// Whether a text is this one.
-fn is_text(text: &SharedText, wanted: &[u8]) -> bool {
-    match text.as_slice() {
-        Some(bytes) => bytes == wanted,
-        None => false,
-    }
-}
-
-/// Whether an answer is the one that is wanted of the command at a place of the list.
-fn is_wanted(at: usize, answer: &Answer) -> bool {
-    match (at, answer) {
-        (0, Answer::Run(1)) => true,
-        (1, Answer::Text(text)) => {
-            is_text(
-                text,
-                b"annotate a.c Ir\n7 total\n2 1: int x;\n5 (outside)\n",
-            )
-        }
-        (2, Answer::Done) | (4, Answer::Done) => true,
-        (3, Answer::Refused(Refusal::NoSuchRun)) => true,
-        (5, Answer::Text(text)) => is_text(text, b"g - 1\n"),
-        _ => false,
-    }
-}
-
-/// Whether each command of the list has the answer that is wanted.
-fn are_answered<S: RunStore>(alloc: Global, house: &mut Warehouse<S>) -> Result<bool, AllocError> {
-    let answers = house.run(alloc, commands(alloc)?)?;
-    let are_wanted = answers
-        .iter()
-        .enumerate()
-        .all(|(at, answer)| is_wanted(at, answer));
-    Ok(answers.len() == 6 && are_wanted)
-}
-
-/// The list is run.
-#[derive(Drop)]
-struct Answered {}
-
-impl StoreJob for Answered {
-    type Found = Result<bool, AllocError>;
-
-    fn over<S: RunStore + Drop>(self, alloc: Global, store: S) -> (Result<bool, AllocError>, S) {
-        let mut house = Warehouse::new(store, Limits::standard());
-        let found = are_answered(alloc, &mut house);
-        (found, house.into_store())
-    }
-}
-
-pub fn a_list_of_commands_is_answered(alloc: Global) -> Result<(), Fail> {
-    let (are_answered, _) = done_over(alloc, empty(alloc, false)?, Answered {});
-    holds(are_answered?, "another answer")
 }
 
 /// Whether a head is verified so where the sum of its first event is 9.
