@@ -1,4 +1,4 @@
-// The worked rows, over the library, and reports of rows that are handed in: few tests, since each costs a start of the prover.
+// The worked rows, over the library, and reports of rows that are handed in: one test, since each costs a start of the prover.
 use row_cases::{changes, exchanges, plain_rows, records, reports, totals};
 use std::test::Fail;
 
@@ -32,12 +32,7 @@ fn worked_rows(rt: HostRuntime) -> Result<(), Fail> {
     changes::a_file_without_an_end(alloc)?;
     exchanges::a_stack_over_http(alloc)?;
     records::records_come_in_the_order_of_their_lines(alloc)?;
-    records::a_record_comes_with_its_line(alloc)
-}
-
-#[test]
-fn reports_of_rows(rt: HostRuntime) -> Result<(), Fail> {
-    let alloc = rt.alloc();
+    records::a_record_comes_with_its_line(alloc)?;
     plain_rows::rows_of_one_key_are_added_up(alloc)?;
     plain_rows::a_difference_of_rows(alloc)?;
     plain_rows::callers_and_callees_of_rows(alloc)?;
