@@ -18,6 +18,12 @@ pub record IsContent (table : Table) (content : List Row) (rows : List Row) : Ty
   pub numbered : IsShaped shape.Table rows
   pub rows_are : rows_that_count table rows ≡ content
 
+-- contents without the one at a place
+abbrev pub without_content : ℕ → List (List Row) → List (List Row)
+without_content at [] = []
+without_content zero (content ∷ contents) = contents
+without_content (suc at) (content ∷ contents) = content ∷ without_content at contents
+
 -- each table has its content
 abbrev pub AllContents : List Table → List (List Row) → Trees → Type 0
 AllContents [] [] db = ⊤

@@ -22,13 +22,12 @@ use Rattle.sqlite.specs.Does.{Tally, Does}
 use Rattle.sqlite.specs.Listing.{understood}
 use Rattle.sqlite.specs.State.{State, ExecutesInside}
 use Rattle.sqlite.proofs.Callers.{IsPlain, command_of}
-use Rattle.sql_tables.specs.Contents.{Contain}
+use Rattle.sql_tables.specs.Contents.{Contain, without_content}
 use Rattle.sql_tables.specs.Queries.{only, scan}
 use Rattle.sql_tables.specs.States.{Works}
 use Rattle.sql_tables.proofs.Copies.{copied, copies}
 use Rattle.sql_tables.proofs.Effects.{plainly}
 use Rattle.sql_tables.proofs.Statements.{plain_mode, inside_done}
-use Rattle.sql_tables.proofs.TableDrops.{without_content}
 use Rattle.sql_tables.proofs.Updates.{updates_rows}
 use Rattle.store_schema.specs.First.{HoldsFirst, IsOfThreadZero, first_cell_columns, first_contents_of}
 use Rattle.store_schema.specs.Schema.{schema_one, schema_both, schema_two, meta_at, cell_at, thread_cell_at}

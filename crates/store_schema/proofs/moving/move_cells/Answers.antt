@@ -1,9 +1,8 @@
 use Rattle.std.proofs.Common.{true}
 use Rattle.std.specs.Result.{is_ok}
 use Rattle.sqlite.specs.State.{State}
-use Rattle.sql_tables.specs.Contents.{Contain}
+use Rattle.sql_tables.specs.Contents.{Contain, without_content}
 use Rattle.sql_tables.specs.States.{Works}
-use Rattle.sql_tables.proofs.TableDrops.{without_content}
 use Rattle.store_schema.specs.First.{HoldsFirst, first_contents_of}
 use Rattle.store_schema.specs.Schema.{schema_one, schema_both, schema_two}
 use Rattle.plain_tables.specs.Tables.{new_tables}
