@@ -1,4 +1,4 @@
-use Rattle.std.proofs.Common.{sym, ◌∙◌, refl, inl}
+use Rattle.std.proofs.Common.{sym, ◌∙◌, refl, inr}
 use Rattle.std.proofs.lemmas.Result.{err_from_is_err_and}
 use Rattle.sqlite_pool.specs.StoredLaws.{Keeps-trans, Keeps-refl}
 use Rattle.page_files.proofs.Steps.{begins}
