@@ -114,3 +114,9 @@ module _ {D : Type 0} {g : Ghosts D} (n : ℕ) (new : PageFile D g) (wanted : Li
     writes = h.writes;
     holds_left = stacks_taken_out t now h.next holds n (λ r. not (is_under (pos n) r)) h.only (subst (IsShaped shape.Table) (sym h.rows_are) h.shaped) h.rows_are (λ id x there. ap not (same_number x.run n));
   }
+
+-- what follows from what is left
+pub after : {D : Type 0} {g : Ghosts D} {n : ℕ} {new : PageFile D g} {wanted : List Wanted} {known : List ℕ} {was now : Trees} {t : Tables} {holds : Holds t now}
+    {table : Table} {change : Tables → Tables} {X : Type 0} → Left n new wanted known was now t holds table change
+    → ((next : Trees) → Writes wanted known was next new → Holds (change t) next → X) → X
+after left so = so left.next left.writes left.holds_left

@@ -1,4 +1,4 @@
-use Rattle.std.proofs.Common.{◌≡◌, ℤ, List, ℕ, map, ap, subst, ◌∙◌}
+use Rattle.std.proofs.Common.{◌≡◌, ℤ, List, ℕ, map, ap, subst, ◌∙◌, refl, length, arith}
 use Rattle.std.specs.Borrow.{Bor}
 use Rattle.sqlite_trees.specs.Tree.{put_row, with_tree}
 use Rattle.page_edits.specs.Places.{place_all, rows_given}
@@ -10,6 +10,9 @@ use Rattle.line_fills.proofs.Failing.{refused_fails}
 use Rattle.line_fills.specs.Records.{IsWritable}
 use Rattle.line_fills.specs.Rows.{numbered}
 use Rattle.line_fills.proofs.Cuts.{all_shown}
+use Rattle.sqlite_pool.specs.StoredLaws.{Keeps-refl}
+use Rattle.std.proofs.lemmas.List.{length-map}
+use Rattle.sqlite_record.specs.Record.{decode}
 use Rattle.line_fills.proofs.appends.append_batch.Goals as goal
 
 pub append-requires-clause-short : goal.append-requires-clause-short
@@ -42,3 +45,33 @@ returns-in_err-rows-clause-done g c faithful = λ wanted roots was now t w is pl
 pub returns-clause-done : goal.returns-clause-done
 returns-clause-done g c faithful = λ wanted roots was now t w is plain.
     pages_fail c.args.file.now c.append.new.self c.in-Err.error _ c.error_of.ensures (c.in-Err.ensures.done faithful wanted roots was now t w is (λ k d low. as_given wanted t _ plain))
+
+pub returns-in_err-records-clause-usable : goal.returns-in_err-records-clause-usable
+returns-in_err-records-clause-usable g c = rw (err_from_is_err_and c.from_residual.result c.from_residual.ensures.1).1 tt
+
+pub returns-in_err-records-clause-keeps : goal.returns-in_err-records-clause-keeps
+returns-in_err-records-clause-keeps g c = Keeps-refl _
+
+pub returns-in_err-rows-clause-usable : goal.returns-in_err-rows-clause-usable
+returns-in_err-rows-clause-usable g c = rw (err_from_is_err_and c.from_residual-in_err-rows.result c.from_residual-in_err-rows.ensures.1).1 tt
+
+pub returns-in_err-rows-clause-keeps : goal.returns-in_err-rows-clause-keeps
+returns-in_err-rows-clause-keeps g c = Keeps-refl _
+
+pub returns-in-Ok-clause-usable : goal.returns-in-Ok-clause-usable
+returns-in-Ok-clause-usable g c = c.in-Ok.ensures.usable
+
+pub returns-in-Ok-clause-keeps : goal.returns-in-Ok-clause-keeps
+returns-in-Ok-clause-keeps g c = c.append.ensures.keeps
+
+pub returns-clause-usable : goal.returns-clause-usable
+returns-clause-usable g c = tt
+
+pub returns-clause-keeps : goal.returns-clause-keeps
+returns-clause-keeps g c = c.append.ensures.keeps
+
+pub rows-requires : goal.rows-requires
+rows-requires g c =
+    let columns = g.L.PageLine.columns in
+    let made = c.in_ok-records.ensures.made.rows_are in
+    omega (arith, c.requires.room, ap length made, length-map c.in_ok-records.records decode, length-map c.args.lines.now columns)

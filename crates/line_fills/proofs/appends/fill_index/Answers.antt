@@ -1,4 +1,4 @@
-use Rattle.std.proofs.Common.{◌≡◌, IfSome, IsPermutation, length, map, sym, subst}
+use Rattle.std.proofs.Common.{◌≡◌, IfSome, IsPermutation, length, map, sym, subst, refl}
 use Rattle.std.specs.List.{range_with_len}
 use Rattle.std.proofs.lemmas.List.{length-map}
 use Rattle.std.proofs.lemmas.List.Sorted.{All-permutation}
@@ -42,3 +42,15 @@ pub returns-in_err-places-clause-done : goal.returns-in_err-places-clause-done
 returns-in_err-places-clause-done g c faithful = λ wanted roots was now t w is none.
     let p = err_from_is_err_and c.from_residual.result c.from_residual.ensures.1 in
     rw p.1 (memory_fails c.args.file.now c.args.file.now p.0 p.2)
+
+pub returns-in_err-places-clause-usable : goal.returns-in_err-places-clause-usable
+returns-in_err-places-clause-usable g c = λ usable. rw (err_from_is_err_and c.from_residual.result c.from_residual.ensures.1).1 tt
+
+pub returns-in_err-places-clause-keeps : goal.returns-in_err-places-clause-keeps
+returns-in_err-places-clause-keeps g c = Keeps-refl _
+
+pub returns-clause-usable : goal.returns-clause-usable
+returns-clause-usable g c = c.insert_entries.ensures.usable
+
+pub returns-clause-keeps : goal.returns-clause-keeps
+returns-clause-keeps g c = c.insert_entries.ensures.keeps

@@ -1,4 +1,4 @@
-use Rattle.std.proofs.Common.{◌≡◌, List, ℕ, map, ap, sym, subst, ◌∙◌}
+use Rattle.std.proofs.Common.{◌≡◌, List, ℕ, map, ap, sym, subst, ◌∙◌, refl}
 use Rattle.std.specs.Borrow.{Bor}
 use Rattle.sqlite_record.specs.Record.{decode}
 use Rattle.sqlite_trees.specs.Tree.{insert_entry, with_tree}
@@ -13,6 +13,7 @@ use Rattle.line_fills.specs.Records.{IsWritable}
 use Rattle.line_fills.specs.Rows.{entries_at}
 use Rattle.line_fills.proofs.Cuts.{all_shown}
 use Rattle.line_fills.proofs.Steps.{entry_as_given}
+use Rattle.sqlite_pool.specs.StoredLaws.{Keeps-refl}
 use Rattle.line_fills.proofs.appends.insert_batch.Goals as goal
 
 pub append_entries-requires-clause-short : goal.append_entries-requires-clause-short
@@ -45,3 +46,27 @@ returns-in_err-entries-clause-done g c faithful = λ wanted roots was now t w is
 pub returns-clause-done : goal.returns-clause-done
 returns-clause-done g c faithful = λ wanted roots was now t w is none.
     pages_fail c.args.file.now c.append_entries.new.self c.in-Err.error _ c.error_of.ensures (c.in-Err.ensures.done faithful wanted roots was now t w is (λ k d low. entry_as_given wanted t _ none))
+
+pub returns-in_err-records-clause-usable : goal.returns-in_err-records-clause-usable
+returns-in_err-records-clause-usable g c = rw (err_from_is_err_and c.from_residual.result c.from_residual.ensures.1).1 tt
+
+pub returns-in_err-records-clause-keeps : goal.returns-in_err-records-clause-keeps
+returns-in_err-records-clause-keeps g c = Keeps-refl _
+
+pub returns-in_err-entries-clause-usable : goal.returns-in_err-entries-clause-usable
+returns-in_err-entries-clause-usable g c = rw (err_from_is_err_and c.from_residual-in_err-entries.result c.from_residual-in_err-entries.ensures.1).1 tt
+
+pub returns-in_err-entries-clause-keeps : goal.returns-in_err-entries-clause-keeps
+returns-in_err-entries-clause-keeps g c = Keeps-refl _
+
+pub returns-in-Ok-clause-usable : goal.returns-in-Ok-clause-usable
+returns-in-Ok-clause-usable g c = c.in-Ok.ensures.usable
+
+pub returns-in-Ok-clause-keeps : goal.returns-in-Ok-clause-keeps
+returns-in-Ok-clause-keeps g c = c.append_entries.ensures.keeps
+
+pub returns-clause-usable : goal.returns-clause-usable
+returns-clause-usable g c = tt
+
+pub returns-clause-keeps : goal.returns-clause-keeps
+returns-clause-keeps g c = c.append_entries.ensures.keeps

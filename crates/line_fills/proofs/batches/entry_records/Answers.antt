@@ -54,3 +54,12 @@ returns-in_err-record-clause-refused g c =
     let p = err_from_is_err_and c.from_residual-in_err-record.result c.from_residual-in_err-record.ensures.1 in
     rw (p.1, p.2) (refused_for _ (λ all. subst (λ row. HasRecord (entry_of columns row)) (sym is) (one_of_all (λ k. entry_of columns (row_at first lines k)) places i 0 c.loop-place-test.true all))
     (c.in_err-record.ensures.refused (entry_of columns (Int (pos (first + place)) ∷ g.L.PageLine.columns x)) c.in_ok-push_entry.ensures.taken))
+
+pub returns-in_err-push_entry-clause-made : goal.returns-in_err-push_entry-clause-made
+returns-in_err-push_entry-clause-made g c = rw (err_from_is_err_and c.from_residual.result c.from_residual.ensures.1).1 tt
+
+pub returns-in_err-record-clause-made : goal.returns-in_err-record-clause-made
+returns-in_err-record-clause-made g c = rw (err_from_is_err_and c.from_residual-in_err-record.result c.from_residual-in_err-record.ensures.1).1 tt
+
+pub returns-in_err-push-clause-made : goal.returns-in_err-push-clause-made
+returns-in_err-push-clause-made g c = rw (err_from_is_err_and c.from_residual-in_err-push.result c.from_residual-in_err-push.ensures.1).1 tt

@@ -22,3 +22,6 @@ returns-in_err-push-clause-refused g c =
     let row = g.L.PageLine.columns c.args.line.now in
     let p = err_from_is_err_and c.from_residual.result c.from_residual.ensures.1 in
     rw (p.1, p.2) (refused_for _ (λ fits. subst IsShort (sym c.value.ensures) (value_short row c.loop-at.at (omega (arith, c.loop-at-test.true, c.width-at-end.ensures)) fits)) c.in_err-push.ensures.refused)
+
+pub returns-in_err-push-clause-taken : goal.returns-in_err-push-clause-taken
+returns-in_err-push-clause-taken g c = rw (err_from_is_err_and c.from_residual.result c.from_residual.ensures.1).1 tt

@@ -31,3 +31,12 @@ returns-in_err-record-clause-refused g c =
     let p = err_from_is_err_and c.from_residual-in_err-record.result c.from_residual-in_err-record.ensures.1 in
     rw (p.1, p.2) (refused_for _ (λ all. subst (λ x. HasRecord (columns x)) (sym c.line-item.is) (one_of_all columns c.args.lines.now c.loop-line.line-index c.line-item.result c.loop-line-test.true all))
     (c.in_err-record.ensures.refused (columns c.line-item.result) c.in_ok-push_columns.ensures.taken))
+
+pub returns-in_err-push_columns-clause-made : goal.returns-in_err-push_columns-clause-made
+returns-in_err-push_columns-clause-made g c = rw (err_from_is_err_and c.from_residual.result c.from_residual.ensures.1).1 tt
+
+pub returns-in_err-record-clause-made : goal.returns-in_err-record-clause-made
+returns-in_err-record-clause-made g c = rw (err_from_is_err_and c.from_residual-in_err-record.result c.from_residual-in_err-record.ensures.1).1 tt
+
+pub returns-in_err-push-clause-made : goal.returns-in_err-push-clause-made
+returns-in_err-push-clause-made g c = rw (err_from_is_err_and c.from_residual-in_err-push.result c.from_residual-in_err-push.ensures.1).1 tt

@@ -32,3 +32,12 @@ returns-then-ne-clause-tied g c = λ _.
           let below : c.compare_keys-found.result ≡ Less = found ∙ ap (λ k. row_cmp (key before) (key (get_or places k 0))) (sym next) ∙ less in
           true≢false (c.if-ne.ensures ∙ ap (λ o. not (ordering_index o == 0)) below),
     )
+
+pub returns-then-ne-clause-rise : goal.returns-then-ne-clause-rise
+returns-then-ne-clause-rise g c = λ h. absurd (true≢false (sym h))
+
+pub returns-clause-tied : goal.returns-clause-tied
+returns-clause-tied g c = λ e. absurd (true≢false e)
+
+pub loop-i-init : goal.loop-i-init
+loop-i-init g c = λ j low. absurd (omega (arith, low))

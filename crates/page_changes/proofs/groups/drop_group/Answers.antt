@@ -1,6 +1,6 @@
-use Rattle.std.proofs.Common.{sym, ◌∙◌}
+use Rattle.std.proofs.Common.{sym, ◌∙◌, refl, inr}
 use Rattle.std.proofs.lemmas.Result.{err_from_is_err_and}
-use Rattle.sqlite_pool.specs.StoredLaws.{Keeps-trans}
+use Rattle.sqlite_pool.specs.StoredLaws.{Keeps-trans, Keeps-refl}
 use Rattle.page_files.proofs.Steps.{begins}
 use Rattle.page_places.proofs.Failing.{store_fails_later}
 use Rattle.page_changes.specs.Causes.{CanDropGroup}
@@ -9,6 +9,7 @@ use Rattle.page_changes.proofs.Editing.{none_left}
 use Rattle.page_changes.proofs.Failing.{fails_with_more}
 use Rattle.page_changes.proofs.Seeking.{group_found}
 use Rattle.page_changes.proofs.Results.{at_err, if_err, when_ok}
+use Rattle.std.proofs.lemmas.Bool.{both_ways}
 use Rattle.page_changes.proofs.groups.drop_group.Goals as goal
 
 pub returns-clause-done : goal.returns-clause-done
@@ -38,3 +39,29 @@ returns-clause-failed g c =
 
 pub returns-clause-keeps : goal.returns-clause-keeps
 returns-clause-keeps g c = Keeps-trans _ _ _ c.erase_members.ensures.keeps c.erase_group.ensures.keeps
+
+pub returns-then-not-has_group-clause-done : goal.returns-then-not-has_group-clause-done
+returns-then-not-has_group-clause-done g c = λ clean wanted known db t rests holds listed are. tt
+
+pub returns-then-not-has_group-clause-usable : goal.returns-then-not-has_group-clause-usable
+returns-then-not-has_group-clause-usable g c = tt
+
+pub returns-then-not-has_group-clause-keeps : goal.returns-then-not-has_group-clause-keeps
+returns-then-not-has_group-clause-keeps g c = Keeps-refl _
+
+pub returns-in_err-erase_members-clause-done : goal.returns-in_err-erase_members-clause-done
+returns-in_err-erase_members-clause-done g c = λ clean wanted known db t rests holds listed are. rw (err_from_is_err_and c.from_residual.result c.from_residual.ensures.1).1 tt
+
+pub returns-in_err-erase_members-clause-usable : goal.returns-in_err-erase_members-clause-usable
+returns-in_err-erase_members-clause-usable g c = rw (err_from_is_err_and c.from_residual.result c.from_residual.ensures.1).1 tt
+
+pub returns-in_err-erase_members-clause-keeps : goal.returns-in_err-erase_members-clause-keeps
+returns-in_err-erase_members-clause-keeps g c = c.erase_members.ensures.keeps
+
+pub returns-clause-usable : goal.returns-clause-usable
+returns-clause-usable g c = c.erase_group.ensures.usable
+
+pub returns-then-not-has_group-clause-failed : goal.returns-then-not-has_group-clause-failed
+returns-then-not-has_group-clause-failed g c = λ clean wanted known db t rests holds listed are.
+    let missing = sym (c.has_group.ensures.told t listed) ∙ c.if-not-has_group.true in
+    inr (refl, λ (can : CanDropGroup c.args.name.now t). both_ways _ missing can.grouped)

@@ -1,4 +1,4 @@
-use Rattle.std.proofs.Common.{sym, subst, ◌∙◌, if◌then◌else◌}
+use Rattle.std.proofs.Common.{sym, subst, ◌∙◌, if◌then◌else◌, refl}
 use Rattle.plain_tables.specs.Changes.{with_member}
 use Rattle.store_schema.specs.Tables.{Holds}
 use Rattle.page_files.proofs.Steps.{begins}
@@ -6,6 +6,7 @@ use Rattle.page_changes.proofs.Editing.{listed_member}
 use Rattle.page_changes.specs.Causes.{CanTakeIn}
 use Rattle.page_changes.proofs.Failing.{fails_with_more}
 use Rattle.page_changes.proofs.Results.{at_err, given_ok, if_err, when_ok}
+use Rattle.sqlite_pool.specs.StoredLaws.{Keeps-refl}
 use Rattle.page_changes.proofs.groups.join.Goals as goal
 
 pub returns-then-has_member-clause-done : goal.returns-then-has_member-clause-done
@@ -34,3 +35,15 @@ returns-clause-failed g c =
     c.add_member.ensures.done clean wanted known db db t (begins c.args.file.now rests) holds are
     (record { grouped = sym (c.has_group.ensures.told t listed) ∙ c.if-not-has_group.false; held = sym (c.has_run.ensures.told t listed) ∙ c.if-not-has_run.false; none = none }) in
     fails_with_more c.args.file.now c.add_member.new.file {Q = CanTakeIn c.args.file.now name run t db} e (λ can. can.room none) (at_err c.add_member.result _ _ e is done))
+
+pub returns-clause-usable : goal.returns-clause-usable
+returns-clause-usable g c = c.add_member.ensures.usable
+
+pub returns-clause-keeps : goal.returns-clause-keeps
+returns-clause-keeps g c = c.add_member.ensures.keeps
+
+pub returns-then-has_member-clause-usable : goal.returns-then-has_member-clause-usable
+returns-then-has_member-clause-usable g c = c.if_usable.ensures.usable
+
+pub returns-then-has_member-clause-keeps : goal.returns-then-has_member-clause-keeps
+returns-then-has_member-clause-keeps g c = Keeps-refl _

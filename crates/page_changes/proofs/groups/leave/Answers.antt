@@ -1,4 +1,4 @@
-use Rattle.std.proofs.Common.{sym, subst, ◌∙◌}
+use Rattle.std.proofs.Common.{sym, subst, ◌∙◌, refl}
 use Rattle.store_schema.specs.Tables.{Holds}
 use Rattle.page_files.proofs.Steps.{begins}
 use Rattle.page_changes.specs.Causes.{CanTakeOut}
@@ -6,6 +6,7 @@ use Rattle.page_changes.proofs.Editing.{listed_member, not_member}
 use Rattle.page_changes.proofs.Failing.{fails_with_more}
 use Rattle.page_changes.proofs.Seeking.{member_found}
 use Rattle.page_changes.proofs.Results.{at_err, given_ok, if_err, when_ok}
+use Rattle.sqlite_pool.specs.StoredLaws.{Keeps-refl}
 use Rattle.page_changes.proofs.groups.leave.Goals as goal
 
 pub returns-then-not-has_member-clause-done : goal.returns-then-not-has_member-clause-done
@@ -27,3 +28,15 @@ returns-clause-failed g c =
     let there = sym (c.has_member.ensures ∙ listed_member t c.args.lists.now listed name run) ∙ c.if-not-has_member.false in
     let done = c.erase_member.ensures.done clean wanted known db db t (begins c.args.file.now rests) holds are tt in
     fails_with_more c.args.file.now c.erase_member.new.file {Q = CanTakeOut c.args.file.now t} e (λ can. member_found t db holds name run there can.narrow) (at_err c.erase_member.result _ _ e is done))
+
+pub returns-clause-usable : goal.returns-clause-usable
+returns-clause-usable g c = c.erase_member.ensures.usable
+
+pub returns-clause-keeps : goal.returns-clause-keeps
+returns-clause-keeps g c = c.erase_member.ensures.keeps
+
+pub returns-then-not-has_member-clause-usable : goal.returns-then-not-has_member-clause-usable
+returns-then-not-has_member-clause-usable g c = c.if_usable.ensures.usable
+
+pub returns-then-not-has_member-clause-keeps : goal.returns-then-not-has_member-clause-keeps
+returns-then-not-has_member-clause-keeps g c = Keeps-refl _

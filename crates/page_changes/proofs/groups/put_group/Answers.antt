@@ -1,8 +1,9 @@
-use Rattle.std.proofs.Common.{sym, ◌∙◌}
+use Rattle.std.proofs.Common.{sym, ◌∙◌, refl}
 use Rattle.page_files.proofs.Steps.{begins}
 use Rattle.page_changes.specs.Causes.{CanMake}
 use Rattle.page_changes.proofs.Failing.{fails_with_more}
 use Rattle.page_changes.proofs.Results.{at_err, if_err, when_ok}
+use Rattle.sqlite_pool.specs.StoredLaws.{Keeps-refl}
 use Rattle.page_changes.proofs.groups.put_group.Goals as goal
 
 pub returns-clause-done : goal.returns-clause-done
@@ -15,3 +16,18 @@ returns-clause-failed g c =
     let fresh = sym (c.has_group.ensures.told t listed) ∙ c.if-has_group.false in
     let done = c.add_group.ensures.done clean wanted known db db t (begins c.args.file.now rests) holds are fresh in
     fails_with_more c.args.file.now c.add_group.new.file {Q = CanMake c.args.name.now t db} e (λ can. can.room) (at_err c.add_group.result _ _ e is done))
+
+pub returns-clause-usable : goal.returns-clause-usable
+returns-clause-usable g c = c.add_group.ensures.usable
+
+pub returns-clause-keeps : goal.returns-clause-keeps
+returns-clause-keeps g c = c.add_group.ensures.keeps
+
+pub returns-then-has_group-clause-done : goal.returns-then-has_group-clause-done
+returns-then-has_group-clause-done g c = λ clean wanted known db t rests holds listed are. tt
+
+pub returns-then-has_group-clause-usable : goal.returns-then-has_group-clause-usable
+returns-then-has_group-clause-usable g c = tt
+
+pub returns-then-has_group-clause-keeps : goal.returns-then-has_group-clause-keeps
+returns-then-has_group-clause-keeps g c = Keeps-refl _

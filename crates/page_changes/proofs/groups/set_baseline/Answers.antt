@@ -7,6 +7,7 @@ use Rattle.page_changes.specs.Causes.{CanRebase}
 use Rattle.page_changes.proofs.Failing.{fails_with_more}
 use Rattle.page_changes.proofs.Seeking.{group_found}
 use Rattle.page_changes.proofs.Results.{at_err, given_ok, if_err, when_ok}
+use Rattle.sqlite_pool.specs.StoredLaws.{Keeps-refl}
 use Rattle.page_changes.proofs.groups.set_baseline.Goals as goal
 
 pub returns-then-not-has_group-clause-done : goal.returns-then-not-has_group-clause-done
@@ -35,3 +36,24 @@ returns-clause-failed g c =
     let done = c.put_baseline.ensures.done clean wanted known db db t (begins c.args.file.now rests) holds are held in
     fails_with_more c.args.file.now c.put_baseline.new.file {Q = CanRebase c.args.file.now name run t db} e
     (λ can. record { found = group_found t db holds name grouped can.narrow; room = can.room }) (at_err c.put_baseline.result _ _ e is done))
+
+pub returns-clause-usable : goal.returns-clause-usable
+returns-clause-usable g c = c.put_baseline.ensures.usable
+
+pub returns-clause-keeps : goal.returns-clause-keeps
+returns-clause-keeps g c = c.put_baseline.ensures.keeps
+
+pub returns-then-not-has_run-clause-done : goal.returns-then-not-has_run-clause-done
+returns-then-not-has_run-clause-done g c = λ clean wanted known db t rests holds listed are. tt
+
+pub returns-then-not-has_run-clause-usable : goal.returns-then-not-has_run-clause-usable
+returns-then-not-has_run-clause-usable g c = tt
+
+pub returns-then-not-has_run-clause-keeps : goal.returns-then-not-has_run-clause-keeps
+returns-then-not-has_run-clause-keeps g c = Keeps-refl _
+
+pub returns-then-not-has_group-clause-usable : goal.returns-then-not-has_group-clause-usable
+returns-then-not-has_group-clause-usable g c = c.if_usable.ensures.usable
+
+pub returns-then-not-has_group-clause-keeps : goal.returns-then-not-has_group-clause-keeps
+returns-then-not-has_group-clause-keeps g c = Keeps-refl _

@@ -1,17 +1,18 @@
-use Rattle.std.proofs.Common.{◌≡◌, ◌-◌, ℕ, List, Ok, Err, Result, length, take, drop, sym, ap, subst, ◌∙◌, arith, take-append-drop}
+use Rattle.std.proofs.Common.{◌≡◌, ◌-◌, ◌<◌, ◌^◌, ℕ, List, Ok, Err, Result, length, take, drop, sym, ap, subst, ◌∙◌, arith, take-append-drop, take_all, length-drop}
 use Rattle.std.specs.Borrow.{Bor}
-use Rattle.std.proofs.lemmas.List.{drop-map}
-use Rattle.std.proofs.lemmas.List.Elements.{All-drop}
+use Rattle.std.proofs.lemmas.List.{drop-map, length-map}
+use Rattle.std.proofs.lemmas.List.Elements.{All-drop, All-take}
 use Rattle.std.proofs.lemmas.Result.{err_from_is_err_and}
-use Rattle.sqlite_btree.proofs.Results.{steps_on}
+use Rattle.sqlite_btree.proofs.Results.{steps_on, steps_none}
 use Rattle.sqlite_pages.specs.declared.error.Error.{Error}
+use Rattle.sqlite_record.specs.Strict.{IsRecord}
 use Rattle.sqlite_trees.specs.Tree.{insert_entry}
 use Rattle.sqlite_trees.specs.declared.store.Shape.TheVariants.{Index}
 use Rattle.sqlite_record.specs.Record.{decode}
 use Rattle.sqlite_store.specs.Catalog.{reals_at}
 use Rattle.sqlite_store.specs.Db.{shown, Edits}
 use Rattle.page_edits.specs.Places.{place_all, entries_given, FailsToPlace, PlacesFirst}
-use Rattle.page_edits.proofs.Placing.{placed_more, range_to_end, take_more_of}
+use Rattle.page_edits.proofs.Placing.{placed_more, range_to_end, take_more_of, edits_none}
 use Rattle.page_edits.proofs.appends.append_entries.Goals as goal
 
 -- the rest of the entries
@@ -57,3 +58,33 @@ returns-in_err-done-clause-kept g c = steps_on g.met.P.Pages.follows_trans c.loo
 
 pub returns-clause-kept : goal.returns-clause-kept
 returns-clause-kept g c = c.loop-done.invariant.kept
+
+pub loop-done-init : goal.loop-done-init
+loop-done-init g c =
+    record {
+      within = omega arith;
+      kept = steps_none g.met.P.Pages.follows_refl;
+      placed = λ clean schema t db names same. edits_none db;
+    }
+
+pub returns-clause-done : goal.returns-clause-done
+returns-clause-done g c = λ clean schema t db names same.
+    let given = entries_given c.args.entries.now in
+    let all = take_all c.loop-done.done given (omega (arith, c.loop-done-test.false, length-map c.args.entries.now (λ (entry : Bor (List ℕ)). decode entry.now))) in
+    subst (λ news. Edits (g.P.Pages.size c.args.store.now) schema (g.P.Pages.pages c.args.store.now) (g.P.Pages.pages c.loop-done.store) t (place_all (insert_entry c.args.order) news)) all
+    (c.loop-done.invariant.placed clean schema t db names same)
+
+pub append_some_entries-requires-clause-some : goal.append_some_entries-requires-clause-some
+append_some_entries-requires-clause-some g c =
+    let d = c.loop-done.done in
+    omega (arith, c.loop-done-test.true, ap length (range_to_end c.args.entries.now d), length-drop d c.args.entries.now)
+
+pub append_some_entries-requires-clause-short : goal.append_some_entries-requires-clause-short
+append_some_entries-requires-clause-short g c =
+    let Fact : Bor (List ℕ) → Type 0 = λ row. length row.now < 2 ^ 31 in
+    All-take Fact _ _ (All-drop Fact c.loop-done.done _ c.requires.short)
+
+pub append_some_entries-requires-clause-strict : goal.append_some_entries-requires-clause-strict
+append_some_entries-requires-clause-strict g c =
+    let Fact : Bor (List ℕ) → Type 0 = λ row. IsRecord row.now in
+    All-take Fact _ _ (All-drop Fact c.loop-done.done _ c.requires.strict)

@@ -1,9 +1,11 @@
-use Rattle.std.proofs.Common.{suc, arith}
+use Rattle.std.proofs.Common.{suc, arith, ℕ, List}
 use Rattle.std.proofs.lemmas.Result.{err_from_is_err_and}
 use Rattle.sqlite_btree.proofs.Results.{within_limit}
 use Rattle.sqlite_store.proofs.DbLemmas.{named_laid}
 use Rattle.sqlite_store.proofs.OrderLemmas.{strict}
 use Rattle.page_edits.proofs.Filling.{index_filled}
+use Rattle.std.specs.Borrow.{Bor}
+use Rattle.std.proofs.lemmas.List.{length-map}
 use Rattle.page_edits.proofs.appends.fill_index.Goals as goal
 
 pub returns-in_err-taken-clause-done : goal.returns-in_err-taken-clause-done
@@ -20,3 +22,15 @@ returns-clause-done g c = λ clean schema t db names same.
     let index = laid.1.1 in
     let done = c.in_ok-taken.ensures.done clean (λ e. strict c.args.order) (db.layouts (suc t)) index.entries laid.0 (index.stored, index.tight) in
     index_filled db c.in_ok-taken.taken c.args.order names c.args.entries.now c.requires.strict same done.1
+
+pub returns-in_err-taken-clause-within : goal.returns-in_err-taken-clause-within
+returns-in_err-taken-clause-within g c = rw (err_from_is_err_and c.from_residual.result c.from_residual.ensures.1).1 tt
+
+pub returns-in_err-taken-clause-kept : goal.returns-in_err-taken-clause-kept
+returns-in_err-taken-clause-kept g c = c.fill.ensures.kept
+
+pub returns-clause-within : goal.returns-clause-within
+returns-clause-within g c = omega (arith, c.in_ok-taken.ensures.within, length-map {B = ℕ × List ℕ} c.args.entries.now (λ (entry : Bor (List ℕ)). (0, entry.now)))
+
+pub returns-clause-kept : goal.returns-clause-kept
+returns-clause-kept g c = c.fill.ensures.kept

@@ -1,8 +1,11 @@
-use Rattle.std.proofs.Common.{suc, arith}
+use Rattle.std.proofs.Common.{suc, arith, ℤ, ℕ, List}
 use Rattle.std.proofs.lemmas.Result.{err_from_is_err_and}
 use Rattle.sqlite_btree.proofs.Results.{within_limit}
 use Rattle.sqlite_store.proofs.DbLemmas.{named_laid}
 use Rattle.page_edits.proofs.Filling.{table_filled}
+use Rattle.std.specs.Borrow.{Bor}
+use Rattle.std.proofs.lemmas.List.{length-map}
+use Rattle.page_edits.specs.Rows.{key_of}
 use Rattle.page_edits.proofs.appends.fill_table.Goals as goal
 
 pub returns-in_err-taken-clause-done : goal.returns-in_err-taken-clause-done
@@ -19,3 +22,15 @@ returns-clause-done g c = λ clean schema t db names same.
     let table = laid.1.1 in
     let done = c.in_ok-taken.ensures.done clean (λ e. absurd cc) (db.layouts (suc t)) table.entries laid.0 (table.stored, table.tight) in
     table_filled db c.in_ok-taken.taken names c.args.rows.now c.requires.strict c.in_ok-taken.ensures.keyed same done.1
+
+pub returns-in_err-taken-clause-within : goal.returns-in_err-taken-clause-within
+returns-in_err-taken-clause-within g c = rw (err_from_is_err_and c.from_residual.result c.from_residual.ensures.1).1 tt
+
+pub returns-in_err-taken-clause-kept : goal.returns-in_err-taken-clause-kept
+returns-in_err-taken-clause-kept g c = c.fill.ensures.kept
+
+pub returns-clause-within : goal.returns-clause-within
+returns-clause-within g c = omega (arith, c.in_ok-taken.ensures.within, length-map {B = ℕ × List ℕ} c.args.rows.now (λ (row : ℤ × Bor (List ℕ)). (key_of row.0, row.1.now)))
+
+pub returns-clause-kept : goal.returns-clause-kept
+returns-clause-kept g c = c.fill.ensures.kept

@@ -7,6 +7,7 @@ use Rattle.page_edits.specs.Leaves.{leaf_of, TakesRows}
 use Rattle.page_edits.specs.Rows.{NewRow, entry_from, row_at}
 use Rattle.page_edits.proofs.NewCells.{more_rows, one_more}
 use Rattle.page_edits.proofs.cells.put_rows.Goals.{else-i-gt0-via-then-i-gt0+else-not-follows, else-i-gt0-via-else-i-gt0}
+use Rattle.std.proofs.lemmas.Result.{err_from_is_err_and}
 use Rattle.page_edits.proofs.cells.put_rows.Goals as goal
 
 pub loop-i-preserved : goal.loop-i-preserved
@@ -46,3 +47,51 @@ loop-i-preserved g c =
           let put : TakesRows t mid new header (entry ∷ []) = subst₂ (λ u e. TakesRows u mid new header (e ∷ [])) c.tree-tree.ensures next made in
           subst (TakesRows t old new header) (sym (one_more t rows i within)) (more_rows was (omega (arith, c.loop-i.auto.bytes)) put);
     }
+
+pub returns-in_err-put-clause-within : goal.returns-in_err-put-clause-within
+returns-in_err-put-clause-within g c = rw (err_from_is_err_and c.from_residual.result c.from_residual.ensures.1).1 tt
+
+pub returns-in_err-put-clause-keyed : goal.returns-in_err-put-clause-keyed
+returns-in_err-put-clause-keyed g c = rw (err_from_is_err_and c.from_residual.result c.from_residual.ensures.1).1 tt
+
+pub returns-in_err-put-clause-rise : goal.returns-in_err-put-clause-rise
+returns-in_err-put-clause-rise g c = rw (err_from_is_err_and c.from_residual.result c.from_residual.ensures.1).1 tt
+
+pub returns-in_err-put-clause-done : goal.returns-in_err-put-clause-done
+returns-in_err-put-clause-done g c = λ sound. rw (err_from_is_err_and c.from_residual.result c.from_residual.ensures.1).1 tt
+
+pub returns-in_err-put-clause-len : goal.returns-in_err-put-clause-len
+returns-in_err-put-clause-len g c = omega (arith, c.loop-i.auto.bytes, c.put_cell.ensures.len)
+
+pub returns-then-not-follows-clause-within : goal.returns-then-not-follows-clause-within
+returns-then-not-follows-clause-within g c = omega (arith, c.count-i-end.ensures)
+
+pub returns-then-not-follows-clause-keyed : goal.returns-then-not-follows-clause-keyed
+returns-then-not-follows-clause-keyed g c = c.loop-i.invariant.keyed
+
+pub returns-then-not-follows-clause-rise : goal.returns-then-not-follows-clause-rise
+returns-then-not-follows-clause-rise g c = c.loop-i.invariant.rise
+
+pub returns-then-not-put-clause-within : goal.returns-then-not-put-clause-within
+returns-then-not-put-clause-within g c = omega (arith, c.count-i-end.ensures)
+
+pub returns-then-not-put-clause-keyed : goal.returns-then-not-put-clause-keyed
+returns-then-not-put-clause-keyed g c = c.loop-i.invariant.keyed
+
+pub returns-then-not-put-clause-rise : goal.returns-then-not-put-clause-rise
+returns-then-not-put-clause-rise g c = c.loop-i.invariant.rise
+
+pub returns-then-not-follows-clause-done : goal.returns-then-not-follows-clause-done
+returns-then-not-follows-clause-done g c = c.loop-i.invariant.done
+
+pub returns-then-not-follows-clause-len : goal.returns-then-not-follows-clause-len
+returns-then-not-follows-clause-len g c = omega (arith, c.loop-i.auto.bytes)
+
+pub returns-then-not-put-clause-len : goal.returns-then-not-put-clause-len
+returns-then-not-put-clause-len g c = omega (arith, c.loop-i.auto.bytes, c.put_cell.ensures.len)
+
+pub put_cell-requires-clause-usable : goal.put_cell-requires-clause-usable
+put_cell-requires-clause-usable g c = (omega (arith, c.requires.usable, c.loop-i.auto.bytes), omega (arith, c.requires.usable, c.loop-i.auto.bytes))
+
+pub put_cell-requires-clause-header : goal.put_cell-requires-clause-header
+put_cell-requires-clause-header g c = c.requires.header

@@ -1,10 +1,10 @@
-use Rattle.std.proofs.Common.{◌≡◌, ◌-◌, ◌+◌, ℤ, ℕ, List, ◌++◌, Ok, Err, Result, length, take, drop, sym, ap, subst, ◌∙◌, arith, take_all}
+use Rattle.std.proofs.Common.{◌≡◌, ◌-◌, ◌+◌, ℤ, ℕ, List, ◌++◌, Ok, Err, Result, length, take, drop, sym, ap, subst, ◌∙◌, arith, take_all, length-drop}
 use Rattle.std.proofs.lemmas.Result.{err_from_is_err_and}
 use Rattle.sqlite_pages.specs.declared.error.Error.{Error}
-use Rattle.sqlite_btree.proofs.Results.{steps_on}
+use Rattle.sqlite_btree.proofs.Results.{steps_on, steps_none}
 use Rattle.sqlite_store.specs.Db.{Edits}
 use Rattle.page_edits.specs.Removals.{without_rowids}
-use Rattle.page_edits.proofs.Placing.{edits_as, edits_twice, range_to_end, take_more_of}
+use Rattle.page_edits.proofs.Placing.{edits_as, edits_twice, range_to_end, take_more_of, edits_none}
 use Rattle.page_edits.proofs.Thinning.{part_next, without_rowids-append}
 use Rattle.page_edits.proofs.removals.delete_all.Goals as goal
 
@@ -42,3 +42,22 @@ returns-clause-done g c = λ clean schema t db names.
     let ids = c.args.rowids.now in
     let edits = c.loop-done.invariant.thinned clean schema t db names in
     edits_as (λ rows. ap (λ l. without_rowids l rows) (take_all c.loop-done.done ids (omega (arith, c.loop-done-test.false)))) edits
+
+pub loop-done-init : goal.loop-done-init
+loop-done-init g c =
+    record {
+      within = omega arith;
+      kept = steps_none g.met.P.Pages.follows_refl;
+      thinned = λ clean schema t db names. edits_none db;
+    }
+
+pub delete_some-requires : goal.delete_some-requires
+delete_some-requires g c =
+    let d = c.loop-done.done in
+    omega (arith, c.loop-done-test.true, ap length (range_to_end c.args.rowids.now d), length-drop d c.args.rowids.now)
+
+pub returns-in_err-done-clause-kept : goal.returns-in_err-done-clause-kept
+returns-in_err-done-clause-kept g c = steps_on g.met.P.Pages.follows_trans c.loop-done.invariant.kept c.delete_some.ensures.kept
+
+pub returns-clause-kept : goal.returns-clause-kept
+returns-clause-kept g c = c.loop-done.invariant.kept

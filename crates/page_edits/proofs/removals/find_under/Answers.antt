@@ -10,6 +10,7 @@ use Rattle.sqlite_store.proofs.Causes.{since}
 use Rattle.sqlite_store.proofs.OrderLemmas.{strict, probe_before_key}
 use Rattle.sqlite_value.specs.Keys.{prefix_cmp}
 use Rattle.page_edits.proofs.Seeking.{first_is, none_left}
+use Rattle.sqlite_btree.proofs.Results.{steps_on}
 use Rattle.page_edits.proofs.removals.find_under.Goals as goal
 
 pub returns-in_err-fill_entries-clause-done : goal.returns-in_err-fill_entries-clause-done
@@ -55,3 +56,27 @@ returns-clause-done g c = λ clean layout records laid index.
     (subst₂ (λ n p. TookFirst layout n p old new true) c.fill_entries.ensures.kept.same_size c.fill_entries.ensures.pages
     (subst (TookFirst layout _ _ old new) c.if-not-branch.false (c.in_ok-next_row.ensures.done clean layout now valid)))
     c.is_eq.result (c.is_eq.ensures ∙ ap is_eq (c.with_key.ensures ∙ ap (λ b. prefix_cmp k (decode b) c.args.prefix.now) c.payload.ensures))
+
+pub returns-in_err-fill_entries-clause-kept : goal.returns-in_err-fill_entries-clause-kept
+returns-in_err-fill_entries-clause-kept g c = c.fill_entries.ensures.kept
+
+pub returns-in_err-fill_entries-clause-pages : goal.returns-in_err-fill_entries-clause-pages
+returns-in_err-fill_entries-clause-pages g c = c.fill_entries.ensures.pages
+
+pub returns-in_err-next_row-clause-kept : goal.returns-in_err-next_row-clause-kept
+returns-in_err-next_row-clause-kept g c = steps_on g.met.P.Pages.follows_trans c.fill_entries.ensures.kept c.next_row.ensures.kept
+
+pub returns-in_err-next_row-clause-pages : goal.returns-in_err-next_row-clause-pages
+returns-in_err-next_row-clause-pages g c = c.next_row.ensures.pages ∙ c.fill_entries.ensures.pages
+
+pub returns-then-not-branch-clause-kept : goal.returns-then-not-branch-clause-kept
+returns-then-not-branch-clause-kept g c = steps_on g.met.P.Pages.follows_trans c.fill_entries.ensures.kept c.next_row.ensures.kept
+
+pub returns-then-not-branch-clause-pages : goal.returns-then-not-branch-clause-pages
+returns-then-not-branch-clause-pages g c = c.next_row.ensures.pages ∙ c.fill_entries.ensures.pages
+
+pub returns-clause-kept : goal.returns-clause-kept
+returns-clause-kept g c = steps_on g.met.P.Pages.follows_trans c.fill_entries.ensures.kept c.next_row.ensures.kept
+
+pub returns-clause-pages : goal.returns-clause-pages
+returns-clause-pages g c = c.next_row.ensures.pages ∙ c.fill_entries.ensures.pages

@@ -1,6 +1,6 @@
 use Rattle.std.proofs.Common.{◌≡◌, ℕ, suc, true, false, sym, ap, subst, subst₂, ◌∙◌, arith}
 use Rattle.std.proofs.lemmas.Result.{err_from_is_err_and}
-use Rattle.sqlite_btree.proofs.Results.{later_fault, within_limit}
+use Rattle.sqlite_btree.proofs.Results.{later_fault, within_limit, steps_on}
 use Rattle.sqlite_btree.proofs.ViewLemmas.{ascends_records}
 use Rattle.sqlite_btree.specs.Cut.{drop_at_cut}
 use Rattle.sqlite_btree.specs.Stored.{IsIndex, IsLaidIn, IsWritten}
@@ -75,3 +75,18 @@ returns-clause-done g c = λ clean schema t db names.
     first_out k c.args.prefix.now db names mark (subst (λ b. has_prefix k c.args.prefix.now (decode b) ≡ true) (sym c.payload.ensures) under.1)
     (subst₂ (λ n (p : PageMap). IsWritten (db.layouts (suc t)) p (g.P.Pages.pages c.remove_record.new.store) (λ new. IsIndex (record_order k) n new c.args.root (drop_at_cut (λ x. entry_cmp k (decode x) (decode mark)) laid.1.0)))
     c.find_under.ensures.kept.same_size c.find_under.ensures.pages done.1)
+
+pub returns-in_err-find_under-clause-kept : goal.returns-in_err-find_under-clause-kept
+returns-in_err-find_under-clause-kept g c = c.find_under.ensures.kept
+
+pub returns-then-not-branch-clause-kept : goal.returns-then-not-branch-clause-kept
+returns-then-not-branch-clause-kept g c = c.find_under.ensures.kept
+
+pub returns-in_err-remove_record-clause-kept : goal.returns-in_err-remove_record-clause-kept
+returns-in_err-remove_record-clause-kept g c = steps_on g.met.P.Pages.follows_trans c.find_under.ensures.kept c.remove_record.ensures.kept
+
+pub returns-then-not-branch-2-clause-kept : goal.returns-then-not-branch-2-clause-kept
+returns-then-not-branch-2-clause-kept g c = steps_on g.met.P.Pages.follows_trans c.find_under.ensures.kept c.remove_record.ensures.kept
+
+pub returns-clause-kept : goal.returns-clause-kept
+returns-clause-kept g c = steps_on g.met.P.Pages.follows_trans c.find_under.ensures.kept c.remove_record.ensures.kept

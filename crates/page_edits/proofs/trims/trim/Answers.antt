@@ -1,4 +1,4 @@
-use Rattle.std.proofs.Common.{◌≡◌, [], ◌+◌, ◌-◌, ◌<◌, ◌++◌, true, false, length, take, drop, sym, ap, ap₂, subst, subst₂, refl, ◌∙◌, arith, length-drop, length-append}
+use Rattle.std.proofs.Common.{◌≡◌, [], ◌+◌, ◌-◌, ◌<◌, ◌++◌, true, false, length, take, drop, sym, ap, ap₂, subst, subst₂, refl, ◌∙◌, arith, length-drop, length-append, inl, inr}
 use Rattle.std.proofs.lemmas.Bool.{OnTrue_at}
 use Rattle.std.proofs.lemmas.Result.{err_from_is_err_and}
 use Rattle.sqlite_format.specs.Node.{node_cells}
@@ -153,3 +153,59 @@ returns-in_err-put-clause-kept g c = steps_on g.met.P.Pages.follows_trans (steps
 
 pub returns-clause-kept : goal.returns-clause-kept
 returns-clause-kept g c = steps_on g.met.P.Pages.follows_trans (steps_on g.met.P.Pages.follows_trans c.leaf_below.ensures.kept c.copy.ensures.kept) c.put.ensures.kept
+
+pub returns-in_err-leaf-clause-few : goal.returns-in_err-leaf-clause-few
+returns-in_err-leaf-clause-few g c = rw (err_from_is_err_and c.from_residual.result c.from_residual.ensures.1).1 tt
+
+pub returns-in_err-bytes-clause-few : goal.returns-in_err-bytes-clause-few
+returns-in_err-bytes-clause-few g c = rw (err_from_is_err_and c.from_residual-in_err-bytes.result c.from_residual-in_err-bytes.ensures.1).1 tt
+
+pub returns-in_err-node-clause-few : goal.returns-in_err-node-clause-few
+returns-in_err-node-clause-few g c = rw (err_from_is_err_and c.from_residual-in_err-node.result c.from_residual-in_err-node.ensures.1).1 tt
+
+pub returns-in_err-count-clause-few : goal.returns-in_err-count-clause-few
+returns-in_err-count-clause-few g c = rw (err_from_is_err_and c.from_residual-in_err-count.result c.from_residual-in_err-count.ensures.1).1 tt
+
+pub returns-in_err-page-clause-few : goal.returns-in_err-page-clause-few
+returns-in_err-page-clause-few g c = rw (err_from_is_err_and c.from_residual-in_err-page.result c.from_residual-in_err-page.ensures.1).1 tt
+
+pub returns-in_err-build_without-clause-few : goal.returns-in_err-build_without-clause-few
+returns-in_err-build_without-clause-few g c = rw (err_from_is_err_and c.from_residual-in_err-build_without.result c.from_residual-in_err-build_without.ensures.1).1 tt
+
+pub returns-in_err-put-clause-few : goal.returns-in_err-put-clause-few
+returns-in_err-put-clause-few g c = rw (err_from_is_err_and c.from_residual-in_err-put.result c.from_residual-in_err-put.ensures.1).1 tt
+
+pub returns-then-count-lt2-clause-few : goal.returns-then-count-lt2-clause-few
+returns-then-count-lt2-clause-few g c = inl refl
+
+pub returns-then-not-branch-clause-few : goal.returns-then-not-branch-clause-few
+returns-then-not-branch-clause-few g c = inl refl
+
+pub returns-clause-few : goal.returns-clause-few
+returns-clause-few g c = inr (omega (arith, c.in_ok-count.ensures.few, c.if-count-lt2.false))
+
+pub returns-in_err-page-clause-done : goal.returns-in_err-page-clause-done
+returns-in_err-page-clause-done g c = λ clean order strict layout entries laid whole.
+    let p = err_from_is_err_and c.from_residual-in_err-page.result c.from_residual-in_err-page.ensures.1 in
+    rw p.1 (of_memory _ _ _ _ p.2)
+
+pub build_without-requires-clause-places : goal.build_without-requires-clause-places
+build_without-requires-clause-places g c = (omega (arith, c.if-count-lt2.false), omega (arith, c.in_ok-count.ensures.within, c.if-count-lt2.false))
+
+pub build_without-requires-clause-same : goal.build_without-requires-clause-same
+build_without-requires-clause-same g c =
+    ap length (c.as_mut_slice.ensures.value ∙ c.in_ok-page.ensures.items ∙ c.as_slice-2.ensures.value ∙ sym (c.in_ok-node.ensures.same.0 ∙ c.as_slice.ensures.value))
+
+pub put-requires-clause-size : goal.put-requires-clause-size
+put-requires-clause-size g c =
+    let new = c.build_without.new.out in
+    let is_now = c.as_slice-3.ensures.value ∙ written_back c.in_ok-page.page.len new c.in_ok-page.page.items (c.build_without.ensures.len ∙ ap length c.as_mut_slice.ensures.value) (omega (arith, c.in_ok-page.page.ok.0)) in
+    let len = ap length is_now ∙ c.build_without.ensures.len ∙ ap length (c.as_mut_slice.ensures.value ∙ c.in_ok-page.ensures.items ∙ c.as_slice-2.ensures.value) in
+    omega (arith, len, c.in_ok-bytes.ensures.len, c.in_ok-bytes.bytes.ok.0, c.copy.ensures.kept.same_size)
+
+pub put-requires-clause-some : goal.put-requires-clause-some
+put-requires-clause-some g c =
+    let new = c.build_without.new.out in
+    let is_now = c.as_slice-3.ensures.value ∙ written_back c.in_ok-page.page.len new c.in_ok-page.page.items (c.build_without.ensures.len ∙ ap length c.as_mut_slice.ensures.value) (omega (arith, c.in_ok-page.page.ok.0)) in
+    let len = ap length is_now ∙ c.build_without.ensures.len ∙ ap length (c.as_mut_slice.ensures.value ∙ c.in_ok-page.ensures.items ∙ c.as_slice-2.ensures.value) in
+    omega (arith, len, c.in_ok-bytes.ensures.len, c.in_ok-bytes.bytes.ok.0)

@@ -7,6 +7,7 @@ use Rattle.sqlite_store.proofs.DbLemmas.{all_fit, table_reads}
 use Rattle.sqlite_store.proofs.RowLemmas.{up_to_most}
 use Rattle.page_files.specs.Lasts.{IsLastRowid}
 use Rattle.page_files.proofs.LastRows.{last_there, none_there}
+use Rattle.sqlite_btree.proofs.Results.{steps_on}
 use Rattle.page_files.proofs.lasts.last_of.Goals as goal
 
 pub returns-in_err-fill_back-clause-done : goal.returns-in_err-fill_back-clause-done
@@ -54,3 +55,27 @@ returns-clause-done g c clean has =
     let took = subst₂ (λ n p. TookLast layout n p old new false) c.fill_back.ensures.kept.same_size c.fill_back.ensures.pages
     (subst (TookLast layout _ _ old new) c.if-branch.false (c.in_ok-last_row.ensures.done clean layout now valid)) in
     subst (λ rows. IsLastRowid rows None) (sym (table_reads pages laid table)) (none_there layout size pages raw old new all took)
+
+pub returns-in_err-fill_back-clause-kept : goal.returns-in_err-fill_back-clause-kept
+returns-in_err-fill_back-clause-kept g c = c.fill_back.ensures.kept
+
+pub returns-in_err-fill_back-clause-pages : goal.returns-in_err-fill_back-clause-pages
+returns-in_err-fill_back-clause-pages g c = c.fill_back.ensures.pages
+
+pub returns-in_err-last_row-clause-kept : goal.returns-in_err-last_row-clause-kept
+returns-in_err-last_row-clause-kept g c = steps_on g.met.P.Pages.follows_trans c.fill_back.ensures.kept c.last_row.ensures.kept
+
+pub returns-in_err-last_row-clause-pages : goal.returns-in_err-last_row-clause-pages
+returns-in_err-last_row-clause-pages g c = c.last_row.ensures.pages ∙ c.fill_back.ensures.pages
+
+pub returns-then-branch-clause-kept : goal.returns-then-branch-clause-kept
+returns-then-branch-clause-kept g c = steps_on g.met.P.Pages.follows_trans c.fill_back.ensures.kept c.last_row.ensures.kept
+
+pub returns-then-branch-clause-pages : goal.returns-then-branch-clause-pages
+returns-then-branch-clause-pages g c = c.last_row.ensures.pages ∙ c.fill_back.ensures.pages
+
+pub returns-clause-kept : goal.returns-clause-kept
+returns-clause-kept g c = steps_on g.met.P.Pages.follows_trans c.fill_back.ensures.kept c.last_row.ensures.kept
+
+pub returns-clause-pages : goal.returns-clause-pages
+returns-clause-pages g c = c.last_row.ensures.pages ∙ c.fill_back.ensures.pages

@@ -67,3 +67,36 @@ entries-preserved g c = (
   Continues-trans g.P.Pages g.met.P.Pages.follows_trans c.entries.invariant.1 c.next_row.ensures.kept,
   c.next_row.ensures.pages ∙ c.entries.invariant.2,
 )
+
+pub returns-in_err-next_row-clause-kept : goal.returns-in_err-next_row-clause-kept
+returns-in_err-next_row-clause-kept g c = Continues-trans g.P.Pages g.met.P.Pages.follows_trans c.entries.invariant.1 c.next_row.ensures.kept
+
+pub returns-in_err-next_row-clause-pages : goal.returns-in_err-next_row-clause-pages
+returns-in_err-next_row-clause-pages g c = c.next_row.ensures.pages ∙ c.entries.invariant.2
+
+pub returns-then-not-branch-clause-kept : goal.returns-then-not-branch-clause-kept
+returns-then-not-branch-clause-kept g c = Continues-trans g.P.Pages g.met.P.Pages.follows_trans c.entries.invariant.1 c.next_row.ensures.kept
+
+pub returns-then-not-branch-clause-pages : goal.returns-then-not-branch-clause-pages
+returns-then-not-branch-clause-pages g c = c.next_row.ensures.pages ∙ c.entries.invariant.2
+
+pub returns-in-Ok-false-clause-kept : goal.returns-in-Ok-false-clause-kept
+returns-in-Ok-false-clause-kept g c = Continues-trans g.P.Pages g.met.P.Pages.follows_trans c.entries.invariant.1 c.next_row.ensures.kept
+
+pub returns-in-Ok-false-clause-pages : goal.returns-in-Ok-false-clause-pages
+returns-in-Ok-false-clause-pages g c = c.next_row.ensures.pages ∙ c.entries.invariant.2
+
+pub returns-in-Err-clause-kept : goal.returns-in-Err-clause-kept
+returns-in-Err-clause-kept g c = Continues-trans g.P.Pages g.met.P.Pages.follows_trans c.entries.invariant.1 c.next_row.ensures.kept
+
+pub returns-in-Err-clause-pages : goal.returns-in-Err-clause-pages
+returns-in-Err-clause-pages g c = c.next_row.ensures.pages ∙ c.entries.invariant.2
+
+pub returns-clause-kept : goal.returns-clause-kept
+returns-clause-kept g c = c.entries.invariant.1
+
+pub returns-clause-pages : goal.returns-clause-pages
+returns-clause-pages g c = c.entries.invariant.2
+
+pub returns-clause-done : goal.returns-clause-done
+returns-clause-done g c = λ clean layout laid valid start rest all is. tt

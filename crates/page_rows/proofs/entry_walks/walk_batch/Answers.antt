@@ -9,6 +9,7 @@ use Rattle.page_rows.specs.Batches.{shown_of, HandedOn}
 use Rattle.page_rows.specs.Walks.{IsBehind}
 use Rattle.page_rows.proofs.EntrySteps.{walk_fails_later}
 use Rattle.page_rows.proofs.IndexCuts.{left_first, took_none, took_some}
+use Rattle.sqlite_store.proofs.Causes.{Continues-trans}
 use Rattle.page_rows.proofs.entry_walks.walk_batch.Goals as goal
 
 pub returns-in_err-fill_entries-clause-done : goal.returns-in_err-fill_entries-clause-done
@@ -43,3 +44,21 @@ returns-clause-done g c clean order probe layout records laid index = λ start a
     (λ more took. took_some t.Has t.Ends layout size pages side records c.fill_entries.new.batch c.hand_on.new.batch filled start all c.args.sink.now is some c.hand_on.new.sink more
     (subst (λ p. HandedOn t.Has t.Ends start c.hand_on.new.sink all (left_in p c.fill_entries.new.batch) (map decode filled.rest) c.hand_on.new.batch more) paged took))
     (λ e cause. walk_fails_later _ _ _ _ e c.fill_entries.ensures.kept.more_faults c.hand_on.ensures.kept.more_faults cause)
+
+pub returns-in_err-fill_entries-clause-kept : goal.returns-in_err-fill_entries-clause-kept
+returns-in_err-fill_entries-clause-kept g c = c.fill_entries.ensures.kept
+
+pub returns-in_err-fill_entries-clause-pages : goal.returns-in_err-fill_entries-clause-pages
+returns-in_err-fill_entries-clause-pages g c = c.fill_entries.ensures.pages
+
+pub returns-then-is_empty-clause-kept : goal.returns-then-is_empty-clause-kept
+returns-then-is_empty-clause-kept g c = c.fill_entries.ensures.kept
+
+pub returns-then-is_empty-clause-pages : goal.returns-then-is_empty-clause-pages
+returns-then-is_empty-clause-pages g c = c.fill_entries.ensures.pages
+
+pub returns-clause-kept : goal.returns-clause-kept
+returns-clause-kept g c = Continues-trans g.P.Pages g.met.P.Pages.follows_trans c.fill_entries.ensures.kept c.hand_on.ensures.kept
+
+pub returns-clause-pages : goal.returns-clause-pages
+returns-clause-pages g c = c.hand_on.ensures.pages ∙ c.fill_entries.ensures.pages

@@ -152,3 +152,45 @@ batches-preserved g c = (
   Continues-trans g.P.Pages g.met.P.Pages.follows_trans c.batches.invariant.1 c.walk_batch-in-batches.ensures.kept,
   c.walk_batch-in-batches.ensures.pages ∙ c.batches.invariant.2,
 )
+
+pub returns-in_err-walk_batch-clause-kept : goal.returns-in_err-walk_batch-clause-kept
+returns-in_err-walk_batch-clause-kept g c = c.walk_batch.ensures.kept
+
+pub returns-in_err-walk_batch-clause-pages : goal.returns-in_err-walk_batch-clause-pages
+returns-in_err-walk_batch-clause-pages g c = c.walk_batch.ensures.pages
+
+pub returns-then-not-branch-clause-kept : goal.returns-then-not-branch-clause-kept
+returns-then-not-branch-clause-kept g c = c.walk_batch.ensures.kept
+
+pub returns-then-not-branch-clause-pages : goal.returns-then-not-branch-clause-pages
+returns-then-not-branch-clause-pages g c = c.walk_batch.ensures.pages
+
+pub returns-in_err-keep-clause-kept : goal.returns-in_err-keep-clause-kept
+returns-in_err-keep-clause-kept g c = c.walk_batch.ensures.kept
+
+pub returns-in_err-keep-clause-pages : goal.returns-in_err-keep-clause-pages
+returns-in_err-keep-clause-pages g c = c.walk_batch.ensures.pages
+
+pub returns-in_err-walk_batch-2-clause-kept : goal.returns-in_err-walk_batch-2-clause-kept
+returns-in_err-walk_batch-2-clause-kept g c = Continues-trans g.P.Pages g.met.P.Pages.follows_trans c.batches.invariant.1 c.walk_batch-in-batches.ensures.kept
+
+pub returns-in_err-walk_batch-2-clause-pages : goal.returns-in_err-walk_batch-2-clause-pages
+returns-in_err-walk_batch-2-clause-pages g c = c.walk_batch-in-batches.ensures.pages ∙ c.batches.invariant.2
+
+pub returns-then-not-branch-2-clause-pages : goal.returns-then-not-branch-2-clause-pages
+returns-then-not-branch-2-clause-pages g c = c.walk_batch-in-batches.ensures.pages ∙ c.batches.invariant.2
+
+pub returns-then-not-rises-clause-pages : goal.returns-then-not-rises-clause-pages
+returns-then-not-rises-clause-pages g c = c.walk_batch-in-batches.ensures.pages ∙ c.batches.invariant.2
+
+pub returns-in_err-keep-2-clause-pages : goal.returns-in_err-keep-2-clause-pages
+returns-in_err-keep-2-clause-pages g c = c.walk_batch-in-batches.ensures.pages ∙ c.batches.invariant.2
+
+pub returns-clause-kept : goal.returns-clause-kept
+returns-clause-kept g c = c.batches.invariant.1
+
+pub returns-clause-pages : goal.returns-clause-pages
+returns-clause-pages g c = c.batches.invariant.2
+
+pub returns-clause-done : goal.returns-clause-done
+returns-clause-done g c = λ clean has start begun. tt

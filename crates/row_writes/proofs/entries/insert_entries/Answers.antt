@@ -68,3 +68,15 @@ returns-clause-usable g c = c.loop-index.invariant.usable
 
 pub returns-clause-keeps : goal.returns-clause-keeps
 returns-clause-keeps g c = c.loop-index.invariant.keeps
+
+pub returns-in_err-make_entry-clause-done : goal.returns-in_err-make_entry-clause-done
+returns-in_err-make_entry-clause-done g c = λ faithful wanted roots was now indexes w all. let p = err_from_is_err_and c.from_residual.result c.from_residual.ensures.1 in rw (p.1, p.2) tt
+
+pub returns-in_err-make_entry-clause-usable : goal.returns-in_err-make_entry-clause-usable
+returns-in_err-make_entry-clause-usable g c = λ usable. rw (err_from_is_err_and c.from_residual.result c.from_residual.ensures.1).1 tt
+
+pub returns-in_err-write_record-clause-usable : goal.returns-in_err-write_record-clause-usable
+returns-in_err-write_record-clause-usable g c = λ usable. rw (err_from_is_err_and c.from_residual-in_err-write_record.result c.from_residual-in_err-write_record.ensures.1).1 tt
+
+pub returns-in_err-insert-clause-usable : goal.returns-in_err-insert-clause-usable
+returns-in_err-insert-clause-usable g c = λ usable. rw (err_from_is_err_and c.from_residual-in_err-insert.result c.from_residual-in_err-insert.ensures.1).1 tt

@@ -79,3 +79,27 @@ returns-clause-done g c faithful = λ schema wanted roots was now table shows an
     (subst (λ (r : Row). Writes wanted roots was (with_entries remove_entry r trees indexes) new) is v))
     (λ e. changes_later old gone new ⊤ ⊤ e (Keeps-trans _ _ _ c.find_row.ensures.reads.keeps c.delete.ensures.keeps) (λ x. x))
     (c.remove_entries.ensures.done faithful wanted roots was trees indexes first at.indexes)
+
+pub returns-in_err-find_row-clause-usable : goal.returns-in_err-find_row-clause-usable
+returns-in_err-find_row-clause-usable g c = rw (err_from_is_err_and c.from_residual.result c.from_residual.ensures.1).1 tt
+
+pub returns-in_err-find_row-clause-keeps : goal.returns-in_err-find_row-clause-keeps
+returns-in_err-find_row-clause-keeps g c = c.find_row.ensures.reads.keeps
+
+pub returns-then-not-branch-clause-usable : goal.returns-then-not-branch-clause-usable
+returns-then-not-branch-clause-usable g c = c.in_ok-find_row.ensures.usable
+
+pub returns-then-not-branch-clause-keeps : goal.returns-then-not-branch-clause-keeps
+returns-then-not-branch-clause-keeps g c = c.find_row.ensures.reads.keeps
+
+pub returns-in_err-read_row-clause-usable : goal.returns-in_err-read_row-clause-usable
+returns-in_err-read_row-clause-usable g c = rw (err_from_is_err_and c.from_residual-in_err-read_row.result c.from_residual-in_err-read_row.ensures.1).1 tt
+
+pub returns-in_err-read_row-clause-keeps : goal.returns-in_err-read_row-clause-keeps
+returns-in_err-read_row-clause-keeps g c = c.find_row.ensures.reads.keeps
+
+pub returns-in_err-delete-clause-usable : goal.returns-in_err-delete-clause-usable
+returns-in_err-delete-clause-usable g c = rw (err_from_is_err_and c.from_residual-in_err-delete.result c.from_residual-in_err-delete.ensures.1).1 tt
+
+pub returns-clause-usable : goal.returns-clause-usable
+returns-clause-usable g c = c.remove_entries.ensures.usable c.in_ok-delete.ensures.usable

@@ -60,3 +60,21 @@ returns-clause-done g c faithful = λ schema wanted roots was now table shows ab
 
 pub returns-clause-keeps : goal.returns-clause-keeps
 returns-clause-keeps g c = Keeps-trans _ _ _ c.put.ensures.keeps c.insert_entries.ensures.keeps
+
+pub returns-in_err-row-clause-done : goal.returns-in_err-row-clause-done
+returns-in_err-row-clause-done g c = λ faithful schema wanted roots was now table shows above. let p = err_from_is_err_and c.from_residual.result c.from_residual.ensures.1 in rw (p.1, p.2) tt
+
+pub returns-in_err-row-clause-usable : goal.returns-in_err-row-clause-usable
+returns-in_err-row-clause-usable g c = rw (err_from_is_err_and c.from_residual.result c.from_residual.ensures.1).1 tt
+
+pub returns-in_err-write_record-clause-usable : goal.returns-in_err-write_record-clause-usable
+returns-in_err-write_record-clause-usable g c = rw (err_from_is_err_and c.from_residual-in_err-write_record.result c.from_residual-in_err-write_record.ensures.1).1 tt
+
+pub returns-in_err-put-clause-usable : goal.returns-in_err-put-clause-usable
+returns-in_err-put-clause-usable g c = rw (err_from_is_err_and c.from_residual-in_err-put.result c.from_residual-in_err-put.ensures.1).1 tt
+
+pub returns-in_err-put-clause-keeps : goal.returns-in_err-put-clause-keeps
+returns-in_err-put-clause-keeps g c = c.put.ensures.keeps
+
+pub returns-clause-usable : goal.returns-clause-usable
+returns-clause-usable g c = c.insert_entries.ensures.usable c.in_ok-put.ensures.usable

@@ -2,7 +2,7 @@ use Rattle.std.proofs.Common.{◌≡◌, ℕ, List, to_z-of_z, to_z, of_z, w64, 
 use Rattle.std.proofs.lemmas.Bool.{eqb-false, eqb-true}
 use Rattle.std.proofs.lemmas.Result.{err_from_is_err_and}
 use Rattle.std.specs.Prelude.{⊤}
-use Rattle.sqlite_pool.specs.StoredLaws.{Keeps-trans}
+use Rattle.sqlite_pool.specs.StoredLaws.{Keeps-trans, Keeps-refl}
 use Rattle.std.specs.List.{AllByRecursion}
 use Rattle.sqlite_rules.specs.Edit.{without_all}
 use Rattle.sqlite_rules.specs.Lists.{Has}
@@ -101,3 +101,44 @@ returns-clause-done g c faithful = λ schema wanted roots was now table shows le
     (λ v. erased_under c.args.place.now schema wanted roots was now table old new shows n led_all (subst (λ (key : Row). Writes wanted roots was (with_entries (out_under key) [] trees indexes) new) prefix v))
     (λ e. changes_later old gone new ⊤ ⊤ e (Keeps-trans _ _ _ c.rowids_under.ensures.reads.keeps c.delete_all.ensures.keeps) (λ x. x))
     (c.remove_all_under.ensures.done faithful wanted roots was trees indexes taken shows.placed.indexes)
+
+pub returns-in_err-if_usable-clause-usable : goal.returns-in_err-if_usable-clause-usable
+returns-in_err-if_usable-clause-usable g c = rw (err_from_is_err_and c.from_residual.result c.from_residual.ensures.1).1 tt
+
+pub returns-in_err-if_usable-clause-keeps : goal.returns-in_err-if_usable-clause-keeps
+returns-in_err-if_usable-clause-keeps g c = Keeps-refl _
+
+pub returns-then-is_empty-clause-usable : goal.returns-then-is_empty-clause-usable
+returns-then-is_empty-clause-usable g c = c.in_ok-if_usable.ensures.usable
+
+pub returns-then-is_empty-clause-keeps : goal.returns-then-is_empty-clause-keeps
+returns-then-is_empty-clause-keeps g c = Keeps-refl _
+
+pub returns-in_err-push-clause-done : goal.returns-in_err-push-clause-done
+returns-in_err-push-clause-done g c = λ faithful schema wanted roots was now table shows led. let p = err_from_is_err_and c.from_residual-in_err-push.result c.from_residual-in_err-push.ensures.1 in rw (p.1, p.2) tt
+
+pub returns-in_err-push-clause-usable : goal.returns-in_err-push-clause-usable
+returns-in_err-push-clause-usable g c = rw (err_from_is_err_and c.from_residual-in_err-push.result c.from_residual-in_err-push.ensures.1).1 tt
+
+pub returns-in_err-push-clause-keeps : goal.returns-in_err-push-clause-keeps
+returns-in_err-push-clause-keeps g c = Keeps-refl _
+
+pub returns-in_err-rowids-clause-usable : goal.returns-in_err-rowids-clause-usable
+returns-in_err-rowids-clause-usable g c = rw (err_from_is_err_and c.from_residual-in_err-rowids.result c.from_residual-in_err-rowids.ensures.1).1 tt
+
+pub returns-in_err-rowids-clause-keeps : goal.returns-in_err-rowids-clause-keeps
+returns-in_err-rowids-clause-keeps g c = c.rowids_under.ensures.reads.keeps
+
+pub returns-in_err-delete_all-clause-usable : goal.returns-in_err-delete_all-clause-usable
+returns-in_err-delete_all-clause-usable g c = rw (err_from_is_err_and c.from_residual-in_err-delete_all.result c.from_residual-in_err-delete_all.ensures.1).1 tt
+
+pub returns-clause-usable : goal.returns-clause-usable
+returns-clause-usable g c = c.remove_all_under.ensures.usable c.in_ok-delete_all.ensures.usable
+
+pub bounds-place-0 : goal.bounds-place-0
+bounds-place-0 g c = omega (arith, eqb-false (length c.args.place.now.indexes.now) 0 (sym c.is_empty.ensures ∙ c.if-is_empty.false))
+
+pub returns-in_err-if_usable-clause-done : goal.returns-in_err-if_usable-clause-done
+returns-in_err-if_usable-clause-done g c faithful = λ schema wanted roots was now table shows led.
+    let places = c.args.place.now.indexes.now in
+    absurd (no_index wanted roots (now table.tree) places (indexes_of schema table) shows.placed.indexes (eqb-true (length places) 0 (sym c.is_empty.ensures ∙ c.if-is_empty.true)) led)

@@ -9,6 +9,7 @@ use Rattle.sqlite_value.specs.Order.{Row}
 use Rattle.page_edits.specs.Places.{rows_given}
 use Rattle.line_fills.specs.Rows.{row_at}
 use Rattle.line_fills.proofs.Numbers.{numbered-more}
+use Rattle.std.proofs.lemmas.Result.{err_from_is_err_and}
 use Rattle.line_fills.proofs.records.Records.rows.Goals as goal
 
 -- the record at a place, and the row of it
@@ -41,3 +42,21 @@ loop-at-preserved c =
       records = ap (map (λ (r : ℤ × Bor (List ℕ)). r.1.now)) c.in_ok-push.ensures.items ∙ map-append (λ (r : ℤ × Bor (List ℕ)). r.1.now) old one
           ∙ ap (λ l. l ++ slice.now ∷ []) c.loop-at.invariant.records ∙ sym (next_record first records at slice.now low is);
     }
+
+pub returns-in_err-slices-clause-rows : goal.returns-in_err-slices-clause-rows
+returns-in_err-slices-clause-rows c = rw (err_from_is_err_and c.from_residual.result c.from_residual.ensures.1).1 tt
+
+pub returns-in_err-slices-clause-records : goal.returns-in_err-slices-clause-records
+returns-in_err-slices-clause-records c = rw (err_from_is_err_and c.from_residual.result c.from_residual.ensures.1).1 tt
+
+pub returns-in_err-rows-clause-rows : goal.returns-in_err-rows-clause-rows
+returns-in_err-rows-clause-rows c = rw (err_from_is_err_and c.from_residual-in_err-rows.result c.from_residual-in_err-rows.ensures.1).1 tt
+
+pub returns-in_err-rows-clause-records : goal.returns-in_err-rows-clause-records
+returns-in_err-rows-clause-records c = rw (err_from_is_err_and c.from_residual-in_err-rows.result c.from_residual-in_err-rows.ensures.1).1 tt
+
+pub returns-in_err-push-clause-rows : goal.returns-in_err-push-clause-rows
+returns-in_err-push-clause-rows c = rw (err_from_is_err_and c.from_residual-in_err-push.result c.from_residual-in_err-push.ensures.1).1 tt
+
+pub returns-in_err-push-clause-records : goal.returns-in_err-push-clause-records
+returns-in_err-push-clause-records c = rw (err_from_is_err_and c.from_residual-in_err-push.result c.from_residual-in_err-push.ensures.1).1 tt

@@ -6,7 +6,7 @@ use Rattle.sqlite_wal.proofs.StateLemmas.{open_from, ready_of, StaysOrFails-tran
 use Rattle.page_files.specs.declared.files.PageFile.{PageFile}
 use Rattle.page_files.specs.Files.{pages_of}
 use Rattle.page_files.specs.Held.{Rests}
-use Rattle.page_files.specs.Writes.{FailsToWrite}
+use Rattle.page_files.specs.Writes.{FailsToWrite, Forgets}
 use Rattle.page_files.proofs.Causes.{commit_fails}
 use Rattle.page_files.proofs.Results.{if_usable_still, unless_usable}
 use Rattle.page_files.proofs.Steps.{committed, may_commit, may_commit_then, rests_again}
@@ -75,3 +75,17 @@ returns-clause-crash g c =
     let new : PageFile g.row.D.Denot g.D.Disk = record { pool = c.commit.new.self; scratch = old.scratch } in
     let set = c.set_version.ensures in
     may_commit old new c.set_version.new.self set.keeps set.pages (λ is_open. set.version ∙ c.stored_version-version.ensures is_open) c.commit.ensures.crash
+
+pub returns-in-Err-clause-usable : goal.returns-in-Err-clause-usable
+returns-in-Err-clause-usable g c = tt
+
+pub returns-clause-usable : goal.returns-clause-usable
+returns-clause-usable g c = c.if_usable.ensures.usable
+
+pub returns-clause-forgets : goal.returns-clause-forgets
+returns-clause-forgets g c = λ faithful.
+    let new : PageFile g.row.D.Denot g.D.Disk = record { pool = c.commit.new.self; scratch = c.args.self.now.scratch } in
+    if_usable_still c.if_usable.result (state new.pool).is_ready (λ e. e ≡ Io) (Forgets c.args.self.now new) c.if_usable.ensures.cause
+
+pub returns-clause-stays : goal.returns-clause-stays
+returns-clause-stays g c = StaysOrFails-trans _ _ _ c.set_version.ensures.keeps.stays c.commit.ensures.crash.stays

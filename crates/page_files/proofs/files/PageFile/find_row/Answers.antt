@@ -1,10 +1,12 @@
-use Rattle.std.proofs.Common.{subst₂, to_z-of_z}
+use Rattle.std.proofs.Common.{subst₂, to_z-of_z, inr}
 use Rattle.std.proofs.lemmas.Result.{err_from_is_err_and}
 use Rattle.sqlite_pages.proofs.Doubt.{no_doubt}
 use Rattle.sqlite_trees.specs.View.{Finds}
 use Rattle.sqlite_store.specs.Db.{table_row}
 use Rattle.page_rows.proofs.FileTables.{table_there, table_shown}
 use Rattle.page_files.proofs.Reading.{fails_later, same_table, OnlyReads-trans}
+use Rattle.sqlite_pool.proofs.PoolLemmas.{shut_unless_ready}
+use Rattle.sqlite_pool.specs.Pool.{state}
 use Rattle.page_files.proofs.files.PageFile.find_row.Goals as goal
 
 pub returns-in-Err-OutOfMemory-clause-done : goal.returns-in-Err-OutOfMemory-clause-done
@@ -28,3 +30,36 @@ pub returns-clause-done : goal.returns-clause-done
 returns-clause-done g c faithful = λ wanted t shows.
     subst₂ (λ id rows. Finds rows id (table_row (id, c.find_row-found.new.payload.items)) c.in_ok-found.found) (to_z-of_z c.ranges.rowid) (table_shown shows.is_db shows.rooted)
     (c.in_ok-found.ensures.done (no_doubt _ faithful) (table_there shows.is_db shows.rooted))
+
+pub returns-in-Err-OutOfMemory-clause-usable : goal.returns-in-Err-OutOfMemory-clause-usable
+returns-in-Err-OutOfMemory-clause-usable g c = tt
+
+pub returns-in_err-found-clause-reads : goal.returns-in_err-found-clause-reads
+returns-in_err-found-clause-reads g c =
+    let order = c.find_row-found.ensures.kept.in_order in
+    record { keeps = order.keeps; marks = order.marks; pages = c.find_row-found.ensures.pages }
+
+pub returns-in_err-found-clause-usable : goal.returns-in_err-found-clause-usable
+returns-in_err-found-clause-usable g c = rw (err_from_is_err_and c.from_residual.result c.from_residual.ensures.1).1 tt
+
+pub returns-in_err-if_usable-clause-reads : goal.returns-in_err-if_usable-clause-reads
+returns-in_err-if_usable-clause-reads g c =
+    let order = c.find_row-found.ensures.kept.in_order in
+    record { keeps = order.keeps; marks = order.marks; pages = c.find_row-found.ensures.pages }
+
+pub returns-in_err-if_usable-clause-usable : goal.returns-in_err-if_usable-clause-usable
+returns-in_err-if_usable-clause-usable g c = rw (err_from_is_err_and c.from_residual-in_err-if_usable.result c.from_residual-in_err-if_usable.ensures.1).1 tt
+
+pub returns-clause-reads : goal.returns-clause-reads
+returns-clause-reads g c =
+    let order = c.find_row-found.ensures.kept.in_order in
+    record { keeps = order.keeps; marks = order.marks; pages = c.find_row-found.ensures.pages }
+
+pub returns-clause-usable : goal.returns-clause-usable
+returns-clause-usable g c = c.in_ok-if_usable.ensures.usable
+
+pub returns-in_err-if_usable-clause-done : goal.returns-in_err-if_usable-clause-done
+returns-in_err-if_usable-clause-done g c = λ faithful wanted t shows.
+    let p = err_from_is_err_and c.from_residual-in_err-if_usable.result c.from_residual-in_err-if_usable.ensures.1 in
+    let cause = c.in_err-if_usable.ensures.cause in
+    rw (p.1, p.2, cause.0) (inr (shut_unless_ready (state c.find_row-found.new.store) cause.1))
