@@ -3,7 +3,7 @@ use Rattle.callgrind_reader.proofs.names.Names.new.Goals as goal
 
 pub returns : goal.returns
 returns c = record {
-  objects = c.in_ok-new.ensures Object;
-  files = c.in_ok-new-2.ensures File;
-  functions = c.in_ok-new-3.ensures Function;
+  objects = c.in_ok-objects.ensures Object;
+  files = c.in-Ok.ensures File;
+  functions = c.in-Ok-new.ensures Function;
 }
