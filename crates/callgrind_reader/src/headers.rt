@@ -1,5 +1,5 @@
 // Header lines with values of a fixed form.
-ghost use Rattle.std.specs.Prelude.{◌≡◌};
+ghost use Rattle.std.specs.Prelude.{◌≡◌, [], ◌∷◌};
 ghost use Rattle.cg_text.specs.Fields.{fields_of};
 ghost use Rattle.callgrind_reader.specs.Positions.{form_of, positions_fault};
 ghost use Rattle.callgrind_reader.specs.Lines.{version_fault};
@@ -23,26 +23,42 @@ pub fn version_fault(value: &[u8]) -> Option<Fault>
     }
 }
 
+/// What a `positions:` line of one field means.
+fn form_of_one(field: &[u8]) -> Option<Layout>
+    ensures { result ≡ form_of (field.now ∷ []) }
+{
+    if field == b"line".as_slice() {
+        Some(Layout::Line)
+    } else if field == b"instr".as_slice() {
+        Some(Layout::Instr)
+    } else {
+        None
+    }
+}
+
+/// What a `positions:` line of two fields means.
+fn form_of_two(first: &[u8], second: &[u8]) -> Option<Layout>
+    ensures { result ≡ form_of (first.now ∷ second.now ∷ []) }
+{
+    if first == b"instr".as_slice() && second == b"line".as_slice() {
+        Some(Layout::InstrLine)
+    } else {
+        None
+    }
+}
+
 /// What a `positions:` line means.
 pub fn form_of(value: &[u8]) -> Option<Layout>
     ensures { result ≡ form_of (fields_of value.now) }
 {
     let (first, rest) = next_field(value)?;
     let Some((second, rest)) = next_field(rest) else {
-        return match first {
-            b"line" => Some(Layout::Line),
-            b"instr" => Some(Layout::Instr),
-            _ => None,
-        };
+        return form_of_one(first);
     };
     if next_field(rest).is_some() {
         return None;
     }
-    if first == b"instr".as_slice() && second == b"line".as_slice() {
-        Some(Layout::InstrLine)
-    } else {
-        None
-    }
+    form_of_two(first, second)
 }
 
 /// The fault of a `positions:` line of a form, after lines that have settled the positions or not.

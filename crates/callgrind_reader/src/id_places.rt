@@ -77,13 +77,23 @@ impl IdPlaces {
         }
     }
 
+    /// The place of an identifier in the list, if it has one there.
+    fn near_place(&self, id: u64) -> Option<usize>
+        ensures { result ≡ place_near self.now.near.items id }
+    {
+        match self.near.get(id as usize) {
+            Some(place) => *place,
+            None => None,
+        }
+    }
+
     /// The place of an identifier, if it has one.
     pub fn find(&self, id: u64) -> Option<usize>
         ensures { result ≡ place_at self.now id }
     {
-        match self.near.get(id as usize) {
-            Some(Some(place)) => Some(*place),
-            _ => self.others.get(&id).copied(),
+        match self.near_place(id) {
+            Some(place) => Some(place),
+            None => self.others.get(&id).copied(),
         }
     }
 
@@ -94,8 +104,8 @@ impl IdPlaces {
         ensures ok { IfOk result (λ place. (q : ℕ) → place_at self.new q ≡ (if id == q then Some place else place_at self.old q)) }
         ensures err { OnErr result ((q : ℕ) → place_at self.new q ≡ place_at self.old q) }
     {
-        if let Some(Some(place)) = self.near.get(id as usize) {
-            return Ok(*place);
+        if let Some(place) = self.near_place(id) {
+            return Ok(place);
         }
         if id < NEAR {
             put_near(&mut self.near, id as usize, next)?;

@@ -22,10 +22,20 @@ impl Names {
     pub fn new(alloc: Global) -> Result<Names, AllocError>
         ensures { IfOk result (λ n. NamesAre n []) }
     {
+        let objects = Space::new(alloc)?;
+        // What is dropped at each way out is slow to prove.
+        let Ok(files) = Space::new(alloc) else {
+            drop(objects);
+            return Err(AllocError);
+        };
+        let Ok(functions) = Space::new(alloc) else {
+            drop((objects, files));
+            return Err(AllocError);
+        };
         Ok(Names {
-            objects: Space::new(alloc)?,
-            files: Space::new(alloc)?,
-            functions: Space::new(alloc)?,
+            objects,
+            files,
+            functions,
         })
     }
 

@@ -68,10 +68,16 @@ impl State {
         ensures lines { IfOk result (λ s. s.lines ≡ 0) }
         ensures events { IfOk result (λ s. s.header.events.names ≡ None) }
     {
+        let header = Header::new(alloc)?;
+        let Ok(names) = Names::new(alloc) else {
+            // What is dropped at each way out is slow to prove.
+            drop(header);
+            return Err(AllocError);
+        };
         Ok(State {
             lines: 0,
-            header: Header::new(alloc)?,
-            names: Names::new(alloc)?,
+            header,
+            names,
             places: Places::new(),
             call: None,
             fault: None,

@@ -129,10 +129,17 @@ impl Formulas {
     {
         let mut flat = Flat::new(self.alloc, events)?;
         for definition in self.definitions.as_slice() {
-            flat.define(self.alloc, definition)?;
+            if let Err(end) = flat.define(self.alloc, definition) {
+                // What is dropped at each way out is slow to prove.
+                drop(flat);
+                return Err(end);
+            }
         }
         match self.changed {
-            Some(line) => Err(FlatEnd::Fault(Fault::EventTwice, line)),
+            Some(line) => {
+                drop(flat);
+                Err(FlatEnd::Fault(Fault::EventTwice, line))
+            }
             None => Ok(flat),
         }
     }

@@ -52,15 +52,23 @@ fn first_other(text: &[u8]) -> Option<usize>
 fn header_key(word: &[u8]) -> HeaderKey
     ensures { result ≡ key_of word.now }
 {
-    match word {
-        b"version" => HeaderKey::Version,
-        b"positions" => HeaderKey::Positions,
-        b"events" => HeaderKey::Events,
-        b"event" => HeaderKey::Event,
-        b"summary" => HeaderKey::Summary,
-        b"totals" => HeaderKey::Totals,
-        b"thread" => HeaderKey::Thread,
-        _ => HeaderKey::Other,
+    // Comparisons of slices are faster to prove than patterns of bytes.
+    if word == b"version".as_slice() {
+        HeaderKey::Version
+    } else if word == b"positions".as_slice() {
+        HeaderKey::Positions
+    } else if word == b"events".as_slice() {
+        HeaderKey::Events
+    } else if word == b"event".as_slice() {
+        HeaderKey::Event
+    } else if word == b"summary".as_slice() {
+        HeaderKey::Summary
+    } else if word == b"totals".as_slice() {
+        HeaderKey::Totals
+    } else if word == b"thread".as_slice() {
+        HeaderKey::Thread
+    } else {
+        HeaderKey::Other
     }
 }
 

@@ -42,8 +42,7 @@ fn write_header(writer: &mut Writer<Vec<u8>>) -> Result<(), AllocError>
         b"event".as_slice(),
         b"cost".as_slice(),
     ];
-    write_fields(writer, &header)?;
-    Ok(())
+    write_fields(writer, &header)
 }
 
 /// Writes what a line of a place cost in an event.

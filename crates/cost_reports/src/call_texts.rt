@@ -29,8 +29,7 @@ fn push_pair(text: &mut TextWriter<'_>, calls: Pair) -> Result<(), AllocError>
 {
     push_number(&mut text.bytes, calls.first)?;
     text.bytes.push(b' ')?;
-    push_number(&mut text.bytes, calls.second)?;
-    Ok(())
+    push_number(&mut text.bytes, calls.second)
 }
 
 /// Adds the line of all calls.
@@ -39,8 +38,7 @@ fn push_total(text: &mut TextWriter<'_>, calls: Pair) -> Result<(), AllocError>
 {
     push_pair(text, calls)?;
     text.push(b' ')?;
-    text.push_bytes(b"total\n")?;
-    Ok(())
+    text.push_bytes(b"total\n")
 }
 
 /// Adds the line of a row.
@@ -87,16 +85,23 @@ fn push_head<'n>(
     Ok(())
 }
 
-impl CallReport<'_> {
+impl<'a> CallReport<'a> {
+    /// Adds the lines of the calls of an event.
+    fn push_text(&self, text: &mut TextWriter<'a>, event: &[u8]) -> Result<(), AllocError>
+        ensures { OnOk result (GoesOn text.old text.new (call_report_text event.now self.now)) }
+    {
+        push_head(text, self.side, event, &self.function)?;
+        push_total(text, self.total)?;
+        push_rows(text, &self.rows)
+    }
+
     /// The lines of the calls of an event, of at most `most` bytes, as `Report::text`.
     pub fn text(&self, alloc: Global, most: usize, event: &[u8]) -> Result<SharedText, AllocError>
         ensures text { IfOk result (λ text. text ≡ call_report_text event.now self.now) }
         ensures short { IfOk result (λ text. length text ≤ most) }
     {
         let mut text = TextWriter::new(alloc, most);
-        push_head(&mut text, self.side, event, &self.function)?;
-        push_total(&mut text, self.total)?;
-        push_rows(&mut text, &self.rows)?;
+        self.push_text(&mut text, event)?;
         text.finish()
     }
 }

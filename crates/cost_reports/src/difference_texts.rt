@@ -35,8 +35,7 @@ fn push_row<'n>(
     push_difference(text, difference)?;
     text.push(b' ')?;
     push_part(text, key, &row.place)?;
-    text.push(b'\n')?;
-    Ok(())
+    text.push(b'\n')
 }
 
 /// Adds the lines of rows, as long as the text is no longer than it may be.
@@ -66,17 +65,24 @@ fn push_head(text: &mut TextWriter<'_>, key: Key, event: &[u8]) -> Result<(), Al
     Ok(())
 }
 
-impl Difference<'_> {
+impl<'a> Difference<'a> {
+    /// Adds the lines of the difference of an event.
+    fn push_text(&self, text: &mut TextWriter<'a>, event: &[u8]) -> Result<(), AllocError>
+        ensures { OnOk result (GoesOn text.old text.new (difference_text event.now self.now)) }
+    {
+        push_head(text, self.key, event)?;
+        push_difference(text, self.total)?;
+        text.push_bytes(b" total\n")?;
+        push_rows(text, self.key, &self.rows)
+    }
+
     /// The lines of the difference of an event, of at most `most` bytes, as `Report::text`.
     pub fn text(&self, alloc: Global, most: usize, event: &[u8]) -> Result<SharedText, AllocError>
         ensures text { IfOk result (λ text. text ≡ difference_text event.now self.now) }
         ensures short { IfOk result (λ text. length text ≤ most) }
     {
         let mut text = TextWriter::new(alloc, most);
-        push_head(&mut text, self.key, event)?;
-        push_difference(&mut text, self.total)?;
-        text.push_bytes(b" total\n")?;
-        push_rows(&mut text, self.key, &self.rows)?;
+        self.push_text(&mut text, event)?;
         text.finish()
     }
 }

@@ -15,20 +15,26 @@ fn push_head(text: &mut TextWriter<'_>, event: &[u8]) -> Result<(), AllocError>
 {
     text.push_bytes(b"inclusive ")?;
     text.push_escaped(event)?;
-    text.push(b'\n')?;
-    Ok(())
+    text.push(b'\n')
 }
 
-impl InclusiveReport<'_> {
+impl<'a> InclusiveReport<'a> {
+    /// Adds the lines of the inclusive costs of an event.
+    fn push_text(&self, text: &mut TextWriter<'a>, event: &[u8]) -> Result<(), AllocError>
+        ensures { OnOk result (GoesOn text.old text.new (inclusive_text event.now self.now)) }
+    {
+        push_head(text, event)?;
+        push_sum(text, self.total, self.total, b"total")?;
+        push_rows(text, Key::Function, self.total, &self.rows)
+    }
+
     /// The lines of the inclusive costs of an event, of at most `most` bytes, as `Report::text`.
     pub fn text(&self, alloc: Global, most: usize, event: &[u8]) -> Result<SharedText, AllocError>
         ensures text { IfOk result (λ text. text ≡ inclusive_text event.now self.now) }
         ensures short { IfOk result (λ text. length text ≤ most) }
     {
         let mut text = TextWriter::new(alloc, most);
-        push_head(&mut text, event)?;
-        push_sum(&mut text, self.total, self.total, b"total")?;
-        push_rows(&mut text, Key::Function, self.total, &self.rows)?;
+        self.push_text(&mut text, event)?;
         text.finish()
     }
 }

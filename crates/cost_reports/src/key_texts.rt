@@ -2,6 +2,7 @@
 ghost use Rattle.std.specs.Fmt.{decimal};
 ghost use Rattle.std.specs.Prelude.{◌≡◌, ◌<◌, ◌≤◌, ◌^◌, OnOk, IfOk, length};
 ghost use Rattle.cost_rows.specs.KeySums.{total_of};
+ghost use Rattle.cost_rows.specs.declared.keys.Key.TheVariants.{Function, Line};
 ghost use Rattle.report_texts.specs.KeyTexts.{key_name, part_text, cost_text, cost_line, row_text, rows_text, head_text, key_report_text};
 ghost use Rattle.shared_texts.specs.Written.{GoesOn};
 ghost use Rattle.cost_reports.specs.Rows.{lent_place, plain_row, plain_rows};
@@ -34,6 +35,24 @@ fn push_count(text: &mut TextWriter<'_>, count: u64) -> Result<(), AllocError>
     push_number(&mut text.bytes, u128::from(count))
 }
 
+/// Adds a function, behind its object.
+fn push_function<'n>(text: &mut TextWriter<'n>, place: &LentPlace<'n>) -> Result<(), AllocError>
+    ensures { OnOk result (GoesOn text.old text.new (part_text Function (lent_place place.now))) }
+{
+    text.push_name(place.object)?;
+    text.push(b':')?;
+    text.push_name(place.function)
+}
+
+/// Adds a line, behind its file.
+fn push_line<'n>(text: &mut TextWriter<'n>, place: &LentPlace<'n>) -> Result<(), AllocError>
+    ensures { OnOk result (GoesOn text.old text.new (part_text Line (lent_place place.now))) }
+{
+    text.push_name(place.file)?;
+    text.push(b':')?;
+    push_count(text, place.line)
+}
+
 /// Adds the part of a place that a key tells.
 pub(crate) fn push_part<'n>(
     text: &mut TextWriter<'n>,
@@ -43,21 +62,12 @@ pub(crate) fn push_part<'n>(
     ensures { OnOk result (GoesOn text.old text.new (part_text key (lent_place place.now))) }
 {
     match key {
-        Key::Object => text.push_name(place.object)?,
-        Key::File => text.push_name(place.file)?,
-        Key::Function => {
-            text.push_name(place.object)?;
-            text.push(b':')?;
-            text.push_name(place.function)?;
-        }
-        Key::Line => {
-            text.push_name(place.file)?;
-            text.push(b':')?;
-            push_count(text, place.line)?;
-        }
-        Key::Thread => push_count(text, place.thread)?,
+        Key::Object => text.push_name(place.object),
+        Key::File => text.push_name(place.file),
+        Key::Function => push_function(text, place),
+        Key::Line => push_line(text, place),
+        Key::Thread => push_count(text, place.thread),
     }
-    Ok(())
 }
 
 /// Adds a cost and its part of the total.
@@ -67,8 +77,7 @@ fn push_cost(text: &mut TextWriter<'_>, cost: u128, total: u128) -> Result<(), A
 {
     push_number(&mut text.bytes, cost)?;
     text.bytes.push(b' ')?;
-    push_percent(&mut text.bytes, cost, total)?;
-    Ok(())
+    push_percent(&mut text.bytes, cost, total)
 }
 
 /// Adds the line of a cost that is of no part of a place.
@@ -134,7 +143,17 @@ fn push_head(text: &mut TextWriter<'_>, key: Key, event: &[u8]) -> Result<(), Al
     Ok(())
 }
 
-impl Report<'_> {
+impl<'a> Report<'a> {
+    /// Adds the lines of the report of an event.
+    fn push_text(&self, text: &mut TextWriter<'a>, event: &[u8]) -> Result<(), AllocError>
+        ensures { OnOk result (GoesOn text.old text.new (key_report_text event.now self.now)) }
+    {
+        push_head(text, self.key, event)?;
+        push_sum(text, self.total, self.total, b"total")?;
+        push_rows(text, self.key, self.total, &self.rows)?;
+        push_sum(text, self.rest, self.total, b"(rest)")
+    }
+
     /// The lines of the report of an event. A text of more than `most` bytes is refused as one that there is no memory
     /// for.
     pub fn text(&self, alloc: Global, most: usize, event: &[u8]) -> Result<SharedText, AllocError>
@@ -142,10 +161,7 @@ impl Report<'_> {
         ensures short { IfOk result (λ text. length text ≤ most) }
     {
         let mut text = TextWriter::new(alloc, most);
-        push_head(&mut text, self.key, event)?;
-        push_sum(&mut text, self.total, self.total, b"total")?;
-        push_rows(&mut text, self.key, self.total, &self.rows)?;
-        push_sum(&mut text, self.rest, self.total, b"(rest)")?;
+        self.push_text(&mut text, event)?;
         text.finish()
     }
 }

@@ -10,6 +10,5 @@ pub(crate) fn push_number(text: &mut Vec<u8>, number: u128) -> Result<(), AllocE
     ensures { OnOk result (text.new.items ≡ text.old.items ++ decimal number) }
 {
     let mut digits = Buffer::new();
-    text.extend_from_slice(digits.format(number).as_bytes())?;
-    Ok(())
+    text.extend_from_slice(digits.format(number).as_bytes())
 }

@@ -21,9 +21,5 @@ pub(crate) fn push_percent(text: &mut Vec<u8>, cost: u128, total: u128) -> Resul
     let n = hundredths(cost, total);
     let part = (n % 100) as u8;
     push_number(text, n / 100)?;
-    text.push(b'.')?;
-    text.push(b'0' + part / 10)?;
-    text.push(b'0' + part % 10)?;
-    text.push(b'%')?;
-    Ok(())
+    text.extend_from_slice(&[b'.', b'0' + part / 10, b'0' + part % 10, b'%'])
 }

@@ -105,8 +105,7 @@ fn push_event(text: &mut Vec<u8>, run: u32, event: &[u8]) -> Result<(), AllocErr
 {
     push_number(text, u128::from(run))?;
     text.push(b' ')?;
-    push_escaped(text, event)?;
-    Ok(())
+    push_escaped(text, event)
 }
 
 /// Adds a sum beside what is stated.
@@ -115,8 +114,7 @@ fn push_sum(text: &mut Vec<u8>, sum: u128, stated: Option<u128>) -> Result<(), A
 {
     push_number(text, sum)?;
     text.push(b' ')?;
-    push_verdict(text, sum, stated)?;
-    Ok(())
+    push_verdict(text, sum, stated)
 }
 
 /// Adds the line of a check.

@@ -73,8 +73,7 @@ fn replace(held: &mut Vec<u8>, name: &[u8]) -> Result<(), AllocError>
     ensures { OnOk result (held.new.items ≡ name.now) }
 {
     held.clear();
-    held.extend_from_slice(name)?;
-    Ok(())
+    held.extend_from_slice(name)
 }
 
 impl Part {

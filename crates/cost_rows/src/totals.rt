@@ -17,6 +17,16 @@ fn add_sums(totals: &mut [u128], sums: &[u128])
     }
 }
 
+/// Adds the sums of all keys to the totals of their columns.
+fn add_all<K>(totals: &mut [u128], entries: SumIter<'_, K>)
+    requires { (k : ℕ) → k < length totals.old → slice_index totals.old k + column_total (λ sums. sums) k entries < 2 ^ 128 }
+    ensures { (k : ℕ) → k < length totals.old → slice_index totals.new k ≡ slice_index totals.old k + column_total (λ sums. sums) k entries.entry }
+{
+    for (_, sums) in entries {
+        add_sums(totals, sums);
+    }
+}
+
 /// The totals of so many columns over all keys.
 pub(crate) fn total_columns<K>(
     alloc: Global,
@@ -27,8 +37,6 @@ pub(crate) fn total_columns<K>(
     ensures { IfOk result (λ totals. AreColumns columns (λ k. column_total (λ sums. sums) k entries.entry) totals.items) }
 {
     let mut totals = vec![in alloc; 0u128; columns]?;
-    for (_, sums) in entries {
-        add_sums(&mut totals, sums);
-    }
+    add_all(&mut totals, entries);
     Ok(totals)
 }

@@ -99,11 +99,17 @@ impl FileParser {
                 digest,
                 file: Ok((head, rows)),
             }),
-            Err(ReadEnd::Fault(fault, line)) => Ok(ParsedFile {
-                digest,
-                file: Err((fault, line)),
-            }),
-            Err(ReadEnd::Memory) => Err(AllocError),
+            Err(end) => {
+                // What is dropped at each way out is slow to prove.
+                drop(rows);
+                match end {
+                    ReadEnd::Fault(fault, line) => Ok(ParsedFile {
+                        digest,
+                        file: Err((fault, line)),
+                    }),
+                    ReadEnd::Memory => Err(AllocError),
+                }
+            }
         }
     }
 }

@@ -1,5 +1,4 @@
 pub mod LineLemmas
 pub mod FrameLemmas
 pub mod ExactLemmas
-pub mod EndsLemmas
 pub mod Examples

@@ -19,6 +19,10 @@ pub fn samples_head(alloc: Global) -> Result<FileHead, AllocError>
             derived,
             stated: None,
         }),
-        Err(_) => Err(AllocError),
+        Err(_) => {
+            // What is dropped at each way out is slow to prove.
+            drop(events);
+            Err(AllocError)
+        }
     }
 }

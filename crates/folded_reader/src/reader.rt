@@ -83,10 +83,19 @@ impl FoldedReader {
             pieces,
             head,
         } = self;
-        pieces.finish(&mut state, sink)?;
-        match state.fault {
-            Some((fault, line)) => Err(ReadEnd::Fault(fault, line)),
-            None => Ok(head),
+        // What is dropped at each way out is slow to prove.
+        match pieces.finish(&mut state, sink) {
+            Ok(()) => match state.fault {
+                Some((fault, line)) => {
+                    drop(head);
+                    Err(ReadEnd::Fault(fault, line))
+                }
+                None => Ok(head),
+            },
+            Err(AllocError) => {
+                drop(head);
+                Err(ReadEnd::Memory)
+            }
         }
     }
 }

@@ -1,2 +1,3 @@
 pub mod FileInserts
 pub mod RowLines
+pub mod Refusals

@@ -183,6 +183,14 @@ fn are_stated(stated: &Option<ListVec<u128>>, events: usize) -> bool
     }
 }
 
+/// Whether a head is whole.
+fn is_complete(head: &FileHead) -> bool
+    ensures { IsTrue result ↔ IsComplete head.now }
+{
+    let events = head.events.len();
+    head.derived.events.len() == events && are_stated(&head.stated, events)
+}
+
 /// The lines of the head of a file, with the sums of its rows. `Store` where a head is not whole, where a sum or a
 /// coefficient is above 2^63-1, or where places have more than 32 bits; `Memory`.
 pub fn head_rows<'a>(
@@ -198,8 +206,7 @@ pub fn head_rows<'a>(
     ensures coefs { IfOk result (λ lines. map coef_row lines.coefs.items ≡ specs.coef_rows run head.now) }
     ensures refused { OfContent head.now totals.now (λ c. IfErr result (RefusesUnless (HeadFits head.now c))) }
 {
-    let events = head.events.len();
-    if head.derived.events.len() != events || !are_stated(&head.stated, events) {
+    if !is_complete(head) {
         return Err(StoreError::Store);
     }
     let derived = head.derived.derived.as_slice();

@@ -1,5 +1,5 @@
 // Whether lines name runs that are held.
-ghost use Rattle.std.specs.Prelude.{◌≡◌, ◌&&◌, IfErr, OnOk};
+ghost use Rattle.std.specs.Prelude.{◌≡◌, ◌&&◌, true, IfErr, IfSome, OnOk};
 ghost use Rattle.std.specs.List.{list_all};
 ghost use Rattle.std.specs.List.Sorted.{IsNonDecreasing};
 ghost use Rattle.plain_tables.specs.Tables.{Tables};
@@ -13,18 +13,23 @@ use crate::run_lines::OfRun;
 use plain_tables::StoreError;
 use std::alloc::Global;
 
+/// Whether a run is one of these, which do not fall and of which the run of the line before is one: mostly it
+/// is that run.
+fn is_of_runs(run: u32, last: Option<u32>, runs: &[u32]) -> bool
+    requires { IsNonDecreasing runs.now → IfSome last (λ run. is_one_of runs.now run ≡ true) }
+    ensures { IsNonDecreasing runs.now → result ≡ is_one_of runs.now run }
+{
+    last == Some(run) || is_among(runs, run)
+}
+
 /// Whether each line is of one of these runs, which do not fall.
 fn are_of_runs<L: OfRun>(lines: &[L], runs: &[u32]) -> bool
     ensures { IsNonDecreasing runs.now → result ≡ list_all (λ line. is_one_of runs.now (L.run_of line)) lines.now }
 {
-    // Most lines are of the same run as the line before.
     let mut last: Option<u32> = None;
     for line in lines {
         let run = line.run();
-        if last == Some(run) {
-            continue;
-        }
-        if !is_among(runs, run) {
+        if !is_of_runs(run, last, runs) {
             return false;
         }
         last = Some(run);

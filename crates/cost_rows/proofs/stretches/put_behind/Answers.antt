@@ -1,5 +1,5 @@
-use Rattle.std.proofs.Common.{◌≡◌, ℕ, ◌+◌, ◌++◌, List, length, slice_index, ◌∙◌, ap, arith}
-use Rattle.std.proofs.lemmas.List.{take_all}
+use Rattle.std.proofs.Common.{◌≡◌, ℕ, ◌+◌, ◌++◌, List, length, take, slice_index, refl, ◌∙◌, ap, arith}
+use Rattle.std.proofs.lemmas.List.{take_all, take_at}
 use Rattle.profile_records.specs.Columns.{added}
 use Rattle.cost_rows.specs.Stretches.{sums_at}
 use Rattle.cost_rows.proofs.StretchLemmas.{length-sums, length-added_to, column-put}
@@ -27,3 +27,13 @@ returns-clause-stretch c =
     let size : length more ≡ length c.args.costs.now =
     length-added_to (sums_at old c.args.held) c.args.costs.now (omega (arith, c.requires.short, length-sums old c.args.held c.requires.within)) in
     (omega (arith, c.in_ok-stretch.ensures.0, c.len.ensures, c.args.sums.now.ok.0), omega (arith, c.in_ok-stretch.ensures.1, size))
+
+pub returns-in_err-push-clause-others : goal.returns-in_err-push-clause-others
+returns-in_err-push-clause-others c =
+    let old : List ℕ = c.args.sums.now.items in
+    ap (take (length old)) (c.in_err-push.ensures.items ∙ c.loop-k.invariant) ∙ take_at old (take c.loop-k.k (added (sums_at old c.args.held) c.args.costs.now)) (length old) refl
+
+pub returns-clause-others : goal.returns-clause-others
+returns-clause-others c =
+    let old : List ℕ = c.args.sums.now.items in
+    ap (take (length old)) c.loop-k.invariant ∙ take_at old (take c.loop-k.k (added (sums_at old c.args.held) c.args.costs.now)) (length old) refl
