@@ -1,7 +1,7 @@
 -- From the table of the grammar to the command line.
-use Rattle.std.proofs.Common.{◌≡◌, ◌<◌, ◌+◌, ℕ, List, [], ◌∷◌, fold, get_or, length, map, take, Option, Some, None, IfOk, IsOkAnd, Result, Ok, Err, ap, sym, ◌∙◌}
-use Rattle.std.proofs.lemmas.Grind.{fold-append}
-use Rattle.std.proofs.lemmas.List.{map_more}
+use Rattle.std.proofs.Common.{◌≡◌, ◌<◌, ◌≤◌, ◌+◌, ℕ, List, [], ◌∷◌, ◌++◌, append_assoc, flat_map, fold, get_or, length, map, take, Option, Some, None, IfOk, IsOkAnd, Result, Ok, Err, ap, sym, ◌∙◌}
+use Rattle.std.proofs.lemmas.Grind.{flat_map-append, fold-append}
+use Rattle.std.proofs.lemmas.List.{append-nil, map-append, map_more, take_all, take_more}
 use Rattle.std.specs.Borrow.{Bor}
 use Rattle.std.specs.declared.alloc.AllocError.{AllocError}
 use Rattle.clap.specs.Words.{App, Rule, Text, app_of, with_rule, with_subcommand}
@@ -20,12 +20,30 @@ has_got (Ok one) all before more got is = got ∙ ap (λ (a : App). with_subcomm
 
 -- ---- the whole command line
 
--- one row after others
-pub row_more : (keys : ValueParser) (table : List Subcommand) (i : ℕ) (d : Subcommand) (before after : App) → i < length table
-    → before ≡ line_by keys (take i table) → after ≡ with_subcommand before (app_by keys (get_or table i d)).top → after ≡ line_by keys (take (i + 1) table)
-row_more keys table i d before after within known is =
+-- one row after others: those of whole tables, and the first i of the next
+pub row_more : (keys : ValueParser) (first table : List Subcommand) (i : ℕ) (d : Subcommand) (before after : App) → i < length table
+    → before ≡ line_by keys (first ++ take i table) → after ≡ with_subcommand before (app_by keys (get_or table i d)).top → after ≡ line_by keys (first ++ take (i + 1) table)
+row_more keys first table i d before after within known is =
+    let one = get_or table i d ∷ [] in
+    let rows : first ++ take (i + 1) table ≡ (first ++ take i table) ++ one = ap (λ table. first ++ table) (take_more table i d within) ∙ sym (append_assoc first (take i table) one) in
     is ∙ ap (λ (a : App). with_row a (row_by keys (get_or table i d))) known
-    ∙ sym (ap (λ rows. fold with_row program rows) (map_more (row_by keys) table i d within) ∙ fold-append with_row program (map (row_by keys) (take i table)) (row_by keys (get_or table i d) ∷ []))
+    ∙ sym (ap (λ rows. line_by keys rows) rows ∙ ap (λ rows. fold with_row program rows) (map-append (row_by keys) (first ++ take i table) one) ∙ fold-append with_row program (map (row_by keys) (first ++ take i table)) (map (row_by keys) one))
+
+-- the rows of some tables
+abbrev of_tables : List (Bor (List Subcommand)) → List Subcommand
+of_tables tables = flat_map (λ rows. rows.now) tables
+
+-- after all rows of a table, the tables are one more
+pub table_more : (keys : ValueParser) (tables : List (Bor (List Subcommand))) (i j : ℕ) (d : Bor (List Subcommand)) (all : App) → i < length tables → length (get_or tables i d).now ≤ j
+    → all ≡ line_by keys (of_tables (take i tables) ++ take j (get_or tables i d).now) → all ≡ line_by keys (of_tables (take (i + 1) tables))
+table_more keys tables i j d all within whole is =
+    let one : List (Bor (List Subcommand)) = get_or tables i d ∷ [] in
+    is ∙ ap (λ rows. line_by keys rows)
+    (ap (λ rows. of_tables (take i tables) ++ rows) (take_all j (get_or tables i d).now whole ∙ sym (append-nil (get_or tables i d).now)) ∙ sym (ap of_tables (take_more tables i d within) ∙ flat_map-append (λ (rows : Bor (List Subcommand)). rows.now) (take i tables) one))
+
+-- before the first row of a table
+pub table_begun : (keys : ValueParser) (first : List Subcommand) (all : App) → all ≡ line_by keys first → all ≡ line_by keys (first ++ [])
+table_begun keys first all is = is ∙ ap (λ rows. line_by keys rows) (sym (append-nil first))
 
 pub line_made : (result : Result Command AllocError) (keys : ValueParser) (table : List Subcommand) → TakesKeys keys → map (row_by keys) table ≡ rows keys
     → IfOk result (λ all. app_of all ≡ line_by keys table) → IfOk result (λ all. IsCommandLine (app_of all))

@@ -225,6 +225,49 @@ fn serve<'a>(db: &'a str, words: &ArgMatches<'a>) -> Option<Plan<'a>>
     })
 }
 
+/// The plan for an export.
+fn export<'a>(name: &str, db: &'a str, words: &ArgMatches<'a>) -> Option<Plan<'a>>
+    requires { HasWord (rows_of (found_of words.now)) (codes "db") db.now }
+    ensures { IfSome result (IsPlanned name.now (rows_of (found_of words.now))) }
+{
+    match name {
+        "annotate" => annotate(db, words),
+        "csv" => csv(db, words),
+        "folded" => folded(db, words),
+        _ => None,
+    }
+}
+
+/// The plan for a report, or for an export.
+fn report<'a>(name: &str, db: &'a str, words: &ArgMatches<'a>) -> Option<Plan<'a>>
+    requires { HasWord (rows_of (found_of words.now)) (codes "db") db.now }
+    ensures { IfSome result (IsPlanned name.now (rows_of (found_of words.now))) }
+{
+    match name {
+        "by" => by(db, words),
+        "inclusive" => inclusive(db, words),
+        "callers" | "callees" => calls(name, db, words),
+        "subtract" => subtract(db, words),
+        "verify" => verify(db, words),
+        _ => export(name, db, words),
+    }
+}
+
+/// The plan for a subcommand that wants the database, and whose plan takes no memory.
+fn small_plan<'a>(name: &str, db: &'a str, words: &ArgMatches<'a>) -> Option<Plan<'a>>
+    requires { HasWord (rows_of (found_of words.now)) (codes "db") db.now }
+    ensures { IfSome result (IsPlanned name.now (rows_of (found_of words.now))) }
+{
+    match name {
+        "runs" => Some(Plan::Runs { db }),
+        "group" => group(db, words),
+        "groups" => Some(Plan::Groups { db }),
+        "join" | "leave" | "baseline" => member(name, db, words),
+        "serve" => serve(db, words),
+        _ => report(name, db, words),
+    }
+}
+
 /// The plan for a subcommand that wants the database.
 fn over_database<'a>(
     alloc: Global,
@@ -236,25 +279,11 @@ fn over_database<'a>(
     let Some(db) = word(words, "db") else {
         return Ok(None);
     };
-    let plan = match name {
-        "import" => return import(alloc, db, words),
-        "remove" => return remove(alloc, db, words),
-        "runs" => Some(Plan::Runs { db }),
-        "group" => group(db, words),
-        "groups" => Some(Plan::Groups { db }),
-        "join" | "leave" | "baseline" => member(name, db, words),
-        "by" => by(db, words),
-        "inclusive" => inclusive(db, words),
-        "callers" | "callees" => calls(name, db, words),
-        "subtract" => subtract(db, words),
-        "verify" => verify(db, words),
-        "annotate" => annotate(db, words),
-        "csv" => csv(db, words),
-        "folded" => folded(db, words),
-        "serve" => serve(db, words),
-        _ => None,
-    };
-    Ok(plan)
+    match name {
+        "import" => import(alloc, db, words),
+        "remove" => remove(alloc, db, words),
+        _ => Ok(small_plan(name, db, words)),
+    }
 }
 
 /// The plan for a subcommand.
@@ -300,7 +329,9 @@ fn plan_by<'a>(
     ensures end { IfErr result (IsEndFor (map string_bytes words.now)) }
 {
     let matches = grammar.try_get_matches_from_mut(words)?;
-    if let Some(plan) = plan_found(alloc, &matches)? {
+    let found = plan_found(alloc, &matches);
+    drop(matches);
+    if let Some(plan) = found? {
         return Ok(plan);
     }
     let error = grammar.error(ErrorKind::MissingSubcommand, "a subcommand is required")?;

@@ -1,12 +1,15 @@
 // The grammar of the command line: what clap is told of the table of subcommands.
-ghost use Rattle.std.specs.Prelude.{◌≡◌, false, map, IfOk, IsOkAnd};
+ghost use Rattle.std.specs.Prelude.{◌≡◌, drop, false, flat_map, map, take, IfOk, IsOkAnd};
 ghost use Rattle.clap.specs.declared.builder.value_parser.ValueParser.{ValueParser};
 ghost use Rattle.clap.specs.Words.{app_of, rule_of, with_subcommand};
 ghost use Rattle.clap.specs.declared.builder.command.Command.TheViews.{out-Command as fields_of};
 ghost use Rattle.command_line.specs.Grammar as line;
 ghost use Rattle.command_line.specs.Table as table;
 
-use crate::subcommands::{Argument, Form, KEYS, SUBCOMMANDS, Subcommand, Takes};
+use crate::subcommands::{
+    Argument, CALLS, COMPARISONS, COSTS, EXPORTS, Form, GROUPS, IMPORTS, KEYS, Subcommand, Takes,
+    UPKEEP,
+};
 use clap::builder::ValueParser;
 use clap::{Arg, ArgAction, Command};
 use std::alloc::{AllocError, Global};
@@ -105,18 +108,20 @@ fn program<'a>(alloc: Global) -> Command<'a>
         .subcommand_required(true)
 }
 
-/// The program's own command with the subcommands of a table.
+/// The program's own command with the subcommands of some tables.
 fn grammar_of<'a>(
     alloc: Global,
-    rows: &'static [Subcommand],
+    tables: &[&'static [Subcommand]],
     keys: ValueParser<'a>,
 ) -> Result<Command<'a>, AllocError>
-    ensures app { IfOk result (λ command. app_of command ≡ table.line_by keys.entry rows.now) }
+    ensures app { IfOk result (λ command. app_of command ≡ table.line_by keys.entry (flat_map (λ rows. rows.now) tables.now)) }
     ensures local { IfOk result (λ command. (fields_of command).has_globals ≡ false) }
 {
     let mut command = program(alloc);
-    for row in rows {
-        command = with(command, command_for(alloc, *row, keys))?;
+    for rows in tables {
+        for row in *rows {
+            command = with(command, command_for(alloc, *row, keys))?;
+        }
     }
     Ok(command)
 }
@@ -128,11 +133,68 @@ fn keys<'a>() -> ValueParser<'a>
     ValueParser::Names(KEYS.as_slice())
 }
 
-/// The table, as a list.
-fn subcommands() -> &'static [Subcommand]
-    ensures { (keys : ValueParser) → map (table.row_by keys) result.now ≡ line.rows keys }
+/// The first table, as a list.
+fn imports() -> &'static [Subcommand]
+    ensures { (keys : ValueParser) → map (table.row_by keys) result.now ≡ take 3 (line.rows keys) }
 {
-    SUBCOMMANDS.as_slice()
+    IMPORTS.as_slice()
+}
+
+/// The table of costs, as a list.
+fn costs() -> &'static [Subcommand]
+    ensures { (keys : ValueParser) → map (table.row_by keys) result.now ≡ take 2 (drop 3 (line.rows keys)) }
+{
+    COSTS.as_slice()
+}
+
+/// The table of calls, as a list.
+fn calls() -> &'static [Subcommand]
+    ensures { (keys : ValueParser) → map (table.row_by keys) result.now ≡ take 2 (drop 5 (line.rows keys)) }
+{
+    CALLS.as_slice()
+}
+
+/// The table of comparisons, as a list.
+fn comparisons() -> &'static [Subcommand]
+    ensures { (keys : ValueParser) → map (table.row_by keys) result.now ≡ take 2 (drop 7 (line.rows keys)) }
+{
+    COMPARISONS.as_slice()
+}
+
+/// The table of exports, as a list.
+fn exports() -> &'static [Subcommand]
+    ensures { (keys : ValueParser) → map (table.row_by keys) result.now ≡ take 3 (drop 9 (line.rows keys)) }
+{
+    EXPORTS.as_slice()
+}
+
+/// The table of groups, as a list.
+fn groups() -> &'static [Subcommand]
+    ensures { (keys : ValueParser) → map (table.row_by keys) result.now ≡ take 5 (drop 12 (line.rows keys)) }
+{
+    GROUPS.as_slice()
+}
+
+/// The last table, as a list.
+fn upkeep() -> &'static [Subcommand]
+    ensures { (keys : ValueParser) → map (table.row_by keys) result.now ≡ drop 17 (line.rows keys) }
+{
+    UPKEEP.as_slice()
+}
+
+/// The tables, in the order in which help lists their subcommands.
+fn subcommands() -> [&'static [Subcommand]; 7]
+    ensures { (keys : ValueParser) → map (table.row_by keys) (flat_map (λ rows. rows.now) result) ≡ line.rows keys }
+{
+    [
+        imports(),
+        costs(),
+        calls(),
+        comparisons(),
+        exports(),
+        groups(),
+        upkeep(),
+    ]
 }
 
 /// The command line that the program reads.
@@ -140,5 +202,5 @@ pub fn grammar<'a>(alloc: Global) -> Result<Command<'a>, AllocError>
     ensures app { IfOk result (λ command. line.IsCommandLine (app_of command)) }
     ensures local { IfOk result (λ command. (fields_of command).has_globals ≡ false) }
 {
-    grammar_of(alloc, subcommands(), keys())
+    grammar_of(alloc, &subcommands(), keys())
 }

@@ -204,8 +204,9 @@ const MOST_ANSWERED: Argument = Argument {
     ..ANY
 };
 
-/// The subcommands, in the order in which help lists them.
-pub static SUBCOMMANDS: [Subcommand; 19] = [
+/// The subcommands that read files, and the one that lists what was imported. Help lists those of this
+/// table first, then those of the next ones, each in the order of its rows.
+pub static IMPORTS: [Subcommand; 3] = [
     Subcommand {
         name: "total",
         about: "Print the sum of each event of a Callgrind file",
@@ -243,6 +244,10 @@ pub static SUBCOMMANDS: [Subcommand; 19] = [
         example: "Example: profhouse runs --db s.db",
         arguments: &[DATABASE],
     },
+];
+
+/// The subcommands that report costs.
+pub static COSTS: [Subcommand; 2] = [
     Subcommand {
         name: "by",
         about: "Report self costs by object, file, function, line or thread; those of several runs are added up",
@@ -255,6 +260,10 @@ pub static SUBCOMMANDS: [Subcommand; 19] = [
         example: "Example: profhouse inclusive --db s.db --event Ir",
         arguments: &[DATABASE, RUN, GROUP, EVENT],
     },
+];
+
+/// The subcommands that report calls.
+pub static CALLS: [Subcommand; 2] = [
     Subcommand {
         name: "callers",
         about: "Report who calls a function",
@@ -267,6 +276,10 @@ pub static SUBCOMMANDS: [Subcommand; 19] = [
         example: "Example: profhouse callees --db s.db --event Ir --object /tmp/a.out main",
         arguments: &[DATABASE, RUN, GROUP, EVENT, OBJECT, FUNCTION],
     },
+];
+
+/// The subcommands that compare costs.
+pub static COMPARISONS: [Subcommand; 2] = [
     Subcommand {
         name: "subtract",
         about: "Report how self costs differ; to compare two builds, give --run N --less-run M",
@@ -279,6 +292,10 @@ pub static SUBCOMMANDS: [Subcommand; 19] = [
         example: "Example: profhouse verify --db s.db",
         arguments: &[DATABASE, RUN, GROUP],
     },
+];
+
+/// The subcommands that write costs out in other forms.
+pub static EXPORTS: [Subcommand; 3] = [
     Subcommand {
         name: "annotate",
         about: "Show a source with the cost of each of its lines",
@@ -314,6 +331,10 @@ pub static SUBCOMMANDS: [Subcommand; 19] = [
         example: "Example: profhouse folded --db s.db",
         arguments: &[DATABASE, RUN, GROUP],
     },
+];
+
+/// The subcommands about groups.
+pub static GROUPS: [Subcommand; 5] = [
     Subcommand {
         name: "group",
         about: "Make a group, or drop one",
@@ -358,6 +379,10 @@ pub static SUBCOMMANDS: [Subcommand; 19] = [
         example: "Example: profhouse groups --db s.db",
         arguments: &[DATABASE],
     },
+];
+
+/// The subcommands that remove runs from a store, or serve it.
+pub static UPKEEP: [Subcommand; 2] = [
     Subcommand {
         name: "remove",
         about: "Remove runs",

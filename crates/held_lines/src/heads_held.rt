@@ -174,7 +174,9 @@ pub fn head_in(
     ensures read { IfOk result (λ head. IsReadFrom head events.now derived.now coefs.now) }
 {
     let all = all_names(alloc, events, derived)?;
-    if !are_distinct(all.as_slice()) {
+    let is_distinct = are_distinct(all.as_slice());
+    drop(all);
+    if !is_distinct {
         return Err(StoreError::Store);
     }
     let names = event_names(alloc, events)?;

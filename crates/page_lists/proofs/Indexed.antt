@@ -1,6 +1,7 @@
 -- The keys in the entries of an index, as they are compared.
-use Rattle.std.proofs.Common.{◌≡◌, ◌<◌, ◌+◌, ◌++◌, ℕ, List, [], ◌∷◌, map, take, length, get_or, IsPermutation, refl, sym, ap, ap₂, subst, ◌∙◌}
+use Rattle.std.proofs.Common.{◌≡◌, ◌<◌, ◌+◌, ◌++◌, ℕ, List, [], ◌∷◌, map, take, length, get_or, IsPermutation, Vec, Global, Result, Ok, Err, IfOk, IsOkAnd, refl, sym, ap, ap₂, subst, ◌∙◌}
 use Rattle.std.proofs.lemmas.List.{map_push, take_more}
+use Rattle.std.specs.declared.alloc.AllocError.{AllocError}
 use Rattle.sqlite_disk.specs.declared.Disk.{Ghosts}
 use Rattle.sqlite_trees.specs.Tree.{Trees}
 use Rattle.sqlite_value.specs.declared.keys.Order.{Order}
@@ -9,7 +10,6 @@ use Rattle.sqlite_value.specs.Order.{Row}
 use Rattle.page_rows.specs.Indexes.{from_entry}
 use Rattle.page_files.specs.declared.files.PageFile.{PageFile}
 use Rattle.page_files.specs.Files.{OnlyReads}
-use Rattle.page_files.specs.Trees.{trees_of}
 use Rattle.page_files.proofs.Reading.{index_after, trees_after}
 use Rattle.page_places.specs.declared.roots.StoreRoots.{StoreRoots}
 use Rattle.run_lists.specs.declared.listed.RunLists.{RunLists}
@@ -31,6 +31,12 @@ pub next_key : (keys entries : List Row) (at : ℕ) (key entry : Row) → at < l
     → map key_of (entries ++ entry ∷ []) ≡ take (at + 1) keys
 next_key keys entries at key entry low there is was =
     map_push key_of entries entry ∙ ap₂ (λ front k. front ++ k ∷ []) was is ∙ sym (take_more keys at key low ∙ ap (λ k. take at keys ++ k ∷ []) (sym there))
+
+-- an index has the keys of these rows, where it has those that were made of them
+pub keys_of_made : {D : Type 0} {g : Ghosts D} {K : Type 0} {made_of rows : List Row} (file : PageFile D g) (root : ℕ) (columns : K → Row) (made : Result (Vec K Global) AllocError)
+    → IsOkAnd made (λ keys. HasKeys file root (map columns keys.items)) → IfOk made (λ keys. map columns keys.items ≡ made_of) → made_of ≡ rows → HasKeys file root rows
+keys_of_made file root columns (Ok keys) has are same = subst (HasKeys file root) (are ∙ same) has
+keys_of_made file root columns (Err end) has are same = absurd has
 
 -- files of which the second was only read from the first: what an index has there it has here
 module _ {D : Type 0} {g : Ghosts D} (old new : PageFile D g) (reads : OnlyReads old new) where

@@ -76,12 +76,26 @@ pub fn open_file<D: Disk + Drop>(
     ensures honest { IfOk result (λ file. IsFaithful file → AreClean D.Disk files.log files.db) }
     ensures crash { IfOk result (λ file. AddsNothing (page_size file) (outcomes D.Disk files.log files.db) (may_leave file)) }
 {
-    let size = plain_size(alloc, &mut files)?;
-    let Ok(pager) = Pager::new(alloc, files, size, options) else {
-        return Err(StoreError::Memory);
+    let size = match plain_size(alloc, &mut files) {
+        Ok(found) => found,
+        Err(end) => {
+            drop(files);
+            return Err(end);
+        }
     };
-    let Ok(pool) = Pool::new(alloc, pager, false) else {
-        return Err(StoreError::Memory);
+    let pager = match Pager::new(alloc, files, size, options) {
+        Ok(pager) => pager,
+        Err(failed) => {
+            drop(failed);
+            return Err(StoreError::Memory);
+        }
+    };
+    let pool = match Pool::new(alloc, pager, false) {
+        Ok(pool) => pool,
+        Err(failed) => {
+            drop(failed);
+            return Err(StoreError::Memory);
+        }
     };
     match PageFile::open(alloc, pool) {
         Ok(file) => Ok(file),

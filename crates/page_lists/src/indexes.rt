@@ -1,5 +1,5 @@
 // Whether the indexes of the small tables have the keys of their rows.
-ghost use Rattle.std.specs.Prelude.{◌≡◌, ◌++◌, ◌∷◌, [], map, IsTrue, OnOk};
+ghost use Rattle.std.specs.Prelude.{◌≡◌, ◌++◌, ◌∷◌, [], map, IsOkAnd, IsTrue, OnOk};
 ghost use Rattle.sqlite_record.specs.Fields.{fields_left};
 ghost use Rattle.sqlite_value.specs.declared.value.Value.{Value};
 ghost use Rattle.sqlite_value.specs.declared.value.Value.TheVariants.{Blob, Text};
@@ -21,7 +21,7 @@ use sqlite_record::fields::Fields;
 use sqlite_value::keys::Order;
 use sqlite_value::row::Row;
 use sqlite_value::value::ValueRef;
-use std::alloc::Global;
+use std::alloc::{AllocError, Global};
 
 /// The key of a row, as an index has it.
 trait Key {
@@ -169,17 +169,18 @@ impl<K: Key> EntrySink for Compared<'_, K> {
 }
 
 /// Looks whether the entries of the index under a root page have these keys and no others. `Store` where they do not,
-/// or a page cannot be read; `Memory`.
+/// or a page cannot be read; `Memory`, as well where there was none for the keys.
 fn check_keys<D: Disk, K: Key + Ord + Drop>(
     file: &mut PageFile<D>,
     alloc: Global,
     root: u32,
-    mut keys: Vec<K>,
+    made: Result<Vec<K>, AllocError>,
 ) -> Result<(), StoreError>
-    ensures same { OnOk result (IsFaithful file.new → HasKeys file.old root (map K.columns keys.items)) }
+    ensures same { OnOk result (IsFaithful file.new → IsOkAnd made (λ keys. HasKeys file.old root (map K.columns keys.items))) }
     ensures reads { OnlyReads file.old file.new }
     ensures usable { OnOk result (IsUsable file.new) }
 {
+    let mut keys = made?;
     keys.sort_unstable();
     let mut compared = Compared {
         keys: keys.as_slice(),
@@ -203,11 +204,11 @@ fn check_events<D: Disk>(
     ensures reads { OnlyReads file.old file.new }
     ensures usable { OnOk result (IsUsable file.new) }
 {
-    let digests = digests(alloc, &lists.runs)?;
+    let digests = digests(alloc, &lists.runs);
     check_keys(file, alloc, roots.run_digests, digests)?;
-    let places = event_places(alloc, lists.events.all())?;
+    let places = event_places(alloc, lists.events.all());
     check_keys(file, alloc, roots.event_places, places)?;
-    let names = event_names(alloc, lists.events.all())?;
+    let names = event_names(alloc, lists.events.all());
     check_keys(file, alloc, roots.event_names, names)
 }
 
@@ -222,11 +223,11 @@ fn check_derived<D: Disk>(
     ensures reads { OnlyReads file.old file.new }
     ensures usable { OnOk result (IsUsable file.new) }
 {
-    let places = derived_places(alloc, lists.derived.all())?;
+    let places = derived_places(alloc, lists.derived.all());
     check_keys(file, alloc, roots.derived_places, places)?;
-    let names = derived_names(alloc, lists.derived.all())?;
+    let names = derived_names(alloc, lists.derived.all());
     check_keys(file, alloc, roots.derived_names, names)?;
-    let keys = coef_keys(alloc, lists.coefs.all())?;
+    let keys = coef_keys(alloc, lists.coefs.all());
     check_keys(file, alloc, roots.coef_keys, keys)
 }
 
@@ -241,9 +242,9 @@ fn check_groups<D: Disk>(
     ensures reads { OnlyReads file.old file.new }
     ensures usable { OnOk result (IsUsable file.new) }
 {
-    let names = group_names(alloc, &lists.groups)?;
+    let names = group_names(alloc, &lists.groups);
     check_keys(file, alloc, roots.group_names, names)?;
-    let members = member_keys(alloc, &lists.members)?;
+    let members = member_keys(alloc, &lists.members);
     check_keys(file, alloc, roots.member_keys, members)
 }
 

@@ -32,8 +32,13 @@ fn read_store<D: Disk>(
     let is_alone = find_tables(file, alloc)?.is_alone()?;
     let roots = find_roots(file, alloc)?;
     let lists = read_lists(file, alloc, &roots)?;
-    check_indexes(file, alloc, &roots, &lists)?;
-    Ok((roots, lists, is_alone))
+    match check_indexes(file, alloc, &roots, &lists) {
+        Ok(()) => Ok((roots, lists, is_alone)),
+        Err(end) => {
+            drop(lists);
+            Err(end)
+        }
+    }
 }
 
 /// Opens a store: where its tables stand, the rows of the small ones, and whether nothing of others stands on them. At a

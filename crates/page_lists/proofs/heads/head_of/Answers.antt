@@ -1,4 +1,4 @@
-use Rattle.std.proofs.Common.{◌==◌, ℕ, List, map, sym, subst, ◌∙◌, IsPermutation}
+use Rattle.std.proofs.Common.{◌==◌, ℕ, map, sym, subst, ◌∙◌, IsPermutation}
 use Rattle.std.proofs.lemmas.Result.{IfOk-weaker}
 use Rattle.plain_tables.specs.Tables.{EventRow, DerivedRow, CoefRow}
 use Rattle.prof_books.specs.HeldHeads.{coef_of_line, event_of_line, name_of_line}

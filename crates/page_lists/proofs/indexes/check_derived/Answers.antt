@@ -1,15 +1,12 @@
-use Rattle.std.proofs.Common.{map, ap, subst, ◌∙◌}
+use Rattle.std.proofs.Common.{map, ap}
 use Rattle.std.proofs.lemmas.Result.{on_ok_weaker}
-use Rattle.page_lists.specs.Indexed.{coef_key, derived_name_key, derived_place_key, HasKeys}
+use Rattle.page_lists.specs.Indexed.{coef_key, derived_name_key, derived_place_key}
 use Rattle.page_lists.proofs.Chains.{◌⊳◌}
-use Rattle.page_lists.proofs.Indexed.{keys_before}
+use Rattle.page_lists.proofs.Indexed.{keys_before, keys_of_made}
 use Rattle.page_lists.proofs.indexes.check_derived.Goals as goal
 
 pub returns-in_err-check_keys-2-clause-reads : goal.returns-in_err-check_keys-2-clause-reads
 returns-in_err-check_keys-2-clause-reads g c = c.check_keys.ensures.reads ⊳ c.check_keys-2.ensures.reads
-
-pub returns-in_err-keys-clause-reads : goal.returns-in_err-keys-clause-reads
-returns-in_err-keys-clause-reads g c = c.check_keys.ensures.reads ⊳ c.check_keys-2.ensures.reads
 
 pub returns-clause-reads : goal.returns-clause-reads
 returns-clause-reads g c = c.check_keys.ensures.reads ⊳ c.check_keys-2.ensures.reads ⊳ c.check_keys-3.ensures.reads
@@ -20,13 +17,13 @@ returns-clause-same g c =
     let next = c.check_keys-2.ensures in
     let last = c.check_keys-3.ensures in
     let roots = c.args.roots.now in
-    let places = c.in_ok-places.ensures ∙ ap (map derived_place_key) c.all.ensures in
-    let names = c.in_ok-names.ensures ∙ ap (map derived_name_key) c.all-2.ensures in
-    let keys = c.in_ok-keys.ensures ∙ ap (map coef_key) c.all-3.ensures in
+    let places = ap (map derived_place_key) c.all.ensures in
+    let names = ap (map derived_name_key) c.all-2.ensures in
+    let keys = ap (map coef_key) c.all-3.ensures in
     on_ok_weaker c.check_keys-3.result (λ same faithful.
     let earlier = last.reads.keeps.stays.clean faithful in
     record {
-      places = subst (HasKeys c.args.file.now roots.derived_places) places (c.in_ok-check_keys.ensures.same (next.reads.keeps.stays.clean earlier));
-      names = keys_before _ _ first.reads (subst (HasKeys c.check_keys.new.file roots.derived_names) names (c.in_ok-check_keys-2.ensures.same earlier));
-      coefs = keys_before _ _ (first.reads ⊳ next.reads) (subst (HasKeys c.check_keys-2.new.file roots.coef_keys) keys (same faithful));
+      places = keys_of_made c.args.file.now roots.derived_places _ c.derived_places-places.result (c.in_ok-check_keys.ensures.same (next.reads.keeps.stays.clean earlier)) c.derived_places-places.ensures places;
+      names = keys_before _ _ first.reads (keys_of_made c.check_keys.new.file roots.derived_names _ c.derived_names-names.result (c.in_ok-check_keys-2.ensures.same earlier) c.derived_names-names.ensures names);
+      coefs = keys_before _ _ (first.reads ⊳ next.reads) (keys_of_made c.check_keys-2.new.file roots.coef_keys _ c.coef_keys-keys.result (same faithful) c.coef_keys-keys.ensures keys);
     }) last.same

@@ -9,7 +9,7 @@ use Rattle.page_lists.proofs.Indexed.{all_from_none}
 use Rattle.page_lists.proofs.indexes.check_keys.Goals as goal
 
 pub returns-in-Ok-clause-same : goal.returns-in-Ok-clause-same
-returns-in-Ok-clause-same g c faithful wanted t shows =
+returns-in-Ok-clause-same g c faithful = rw c.in_ok-keys.was (λ wanted t shows.
     let columns = g.K.Key.columns in
     let lines = c.as_slice.result.now in
     let keys = map columns lines in
@@ -19,6 +19,6 @@ returns-in-Ok-clause-same g c faithful wanted t shows =
     elim (c.in-Ok.ensures.done faithful wanted t shows keys (refl, refl)) [
       | inl (same, all) ↦
           (let taken = take_all c.walk_entries-2.new.sink.taken keys (omega (arith, length-map lines columns, c.if-compared-len.true, c.len.ensures, c.as_slice.ensures.len)) in
-          subst (IsPermutation (map columns c.args.keys.items)) (sym (sym (ap (map key_of) whole) ∙ all ∙ taken ∙ ap (map columns) c.as_slice.ensures.value)) moved)
+          subst (IsPermutation (map columns c.in_ok-keys.keys.items)) (sym (sym (ap (map key_of) whole) ∙ all ∙ taken ∙ ap (map columns) c.as_slice.ensures.value)) moved)
       | inr (front, rest, parts, none) ↦ absurd none
-    ]
+    ])
