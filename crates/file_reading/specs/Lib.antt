@@ -1,6 +1,9 @@
+pub mod Beginnings
 pub mod FileParsers
+pub mod Findings
 pub mod Readers
 pub mod Running
+pub mod Seen
 pub mod Sums
 pub mod TotalLines
 pub mod Totals

@@ -8,7 +8,7 @@ use Rattle.plain_tables.specs.Files.{number_in}
 use Rattle.plain_tables.specs.Tables.{Tables, NameRow}
 use Rattle.store_schema.specs.Tables.{Holds}
 use Rattle.store_schema.proofs.Names.{line_is_held}
-use Rattle.prof_books.specs.Book.{name_of, IsHeld}
+use Rattle.run_stores.specs.Book.{name_of, IsHeld}
 use Rattle.run_stores.specs.Names.{AreApart}
 
 -- a number that is held is that of a line, whose name it has

@@ -6,7 +6,7 @@ use Rattle.std.proofs.lemmas.List.Elements.{All-head, All-tail}
 use Rattle.std.proofs.lemmas.List.{take_all, length-drop, length-map, map-append}
 use Rattle.sqlite_trees.proofs.ListLemmas.{map-map}
 use Rattle.cg_formulas.specs.declared.heads.FileHead.{FileHead}
-use Rattle.prof_books.specs.HeldHeads.{CoefEntry, EventEntry, PlacedName, coefs_at, coefs_from, events_from, placed}
+use Rattle.run_stores.specs.HeldHeads.{CoefEntry, EventEntry, PlacedName, coefs_at, coefs_from, events_from, placed}
 use Rattle.held_lines.specs.HeadLines.{States, IsReadFrom, event_place, event_total, entry_of_event, derived_place}
 use Rattle.held_lines.specs.declared.head_lines.HeadEvent.{HeadEvent}
 use Rattle.held_lines.specs.declared.head_lines.HeadDerived.{HeadDerived}

@@ -5,7 +5,7 @@ use Rattle.std.specs.List.Sorted.{IsNonDecreasingBy}
 use Rattle.std.proofs.lemmas.Bool.Decides.{nat_tests}
 use Rattle.sqlite_trees.specs.Tree.{IsAscending}
 use Rattle.plain_tables.specs.Tables.{NameRow}
-use Rattle.prof_books.specs.Book.{name_of, IsHeld}
+use Rattle.run_stores.specs.Book.{name_of, IsHeld}
 use Rattle.held_lines.specs.NameRows.{name_row}
 use Rattle.held_lines.specs.declared.held_names.HeldName.{HeldName}
 

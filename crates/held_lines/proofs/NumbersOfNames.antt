@@ -2,7 +2,7 @@
 use Rattle.std.proofs.Common.{◌≡◌, ◌≢◌, ◌<◌, ◌==◌, ℕ, Bool, true, false, List, [], ◌∷◌, map, get_or, if◌then◌else◌, ap, sym, arith}
 use Rattle.std.specs.List.{AllByRecursion}
 use Rattle.plain_tables.specs.Tables.{NameRow}
-use Rattle.prof_books.specs.Book.{name_of, no_name}
+use Rattle.run_stores.specs.Book.{name_of, no_name}
 use Rattle.held_lines.specs.NameRows.{name_row}
 use Rattle.held_lines.specs.declared.held_names.HeldName.{HeldName}
 

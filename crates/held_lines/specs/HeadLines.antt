@@ -2,7 +2,7 @@
 use Rattle.std.specs.Prelude.{◌≡◌, ℕ, List, map, Option, Some, None, option_map, string_bytes, MatchOption, All}
 use Rattle.std.specs.Fmt.{decimal}
 use Rattle.cg_formulas.specs.declared.heads.FileHead.{FileHead}
-use Rattle.prof_books.specs.HeldHeads.{CoefEntry, EventEntry, IsSound, PlacedName, coef_entries, derived_entries, event_entries}
+use Rattle.run_stores.specs.HeldHeads.{CoefEntry, EventEntry, IsSound, PlacedName, coef_entries, derived_entries, event_entries}
 use Rattle.held_lines.specs.declared.head_lines.HeadEvent.{HeadEvent}
 use Rattle.held_lines.specs.declared.head_lines.HeadDerived.{HeadDerived}
 use Rattle.held_lines.specs.declared.head_lines.HeadCoef.{HeadCoef}

@@ -2,7 +2,7 @@
 use Rattle.std.specs.Prelude.{◌≡◌, ℕ, List, map, fold}
 use Rattle.cost_rows.specs.declared.rows.StackRow.{StackRow}
 use Rattle.plain_tables.specs.Tables.{StoredStack}
-use Rattle.prof_books.specs.Book.{stack_held}
+use Rattle.run_stores.specs.Book.{stack_held}
 use Rattle.held_lines.specs.declared.handed_stacks.StackLines.{StackLines}
 
 -- these lines were taken, one after another

@@ -1,7 +1,7 @@
 // The stacks of a run, handed on one at a time.
 ghost use Rattle.std.specs.Prelude.{◌≡◌, ◌++◌, ◌∷◌, [], List, OnOk, fold, map};
 ghost use Rattle.cost_rows.specs.Plain.{plain_stack};
-ghost use Rattle.prof_books.specs.Book.{stack_held};
+ghost use Rattle.run_stores.specs.Book.{stack_held};
 ghost use Rattle.plain_tables.specs.Tables.{StoredStack};
 ghost use Rattle.store_schema.specs.Lines.{held_stack};
 ghost use Rattle.held_lines.specs.HeldStacks.{HasTakenStackLines};

@@ -1,7 +1,7 @@
 // The head of a run, from its lines.
 ghost use Rattle.std.specs.Prelude.{◌≡◌, ◌≤◌, ◌++◌, [], ◌∷◌, map, take, length, Some, None, IfOk};
 ghost use Rattle.std.specs.Fmt.{decimal};
-ghost use Rattle.prof_books.specs.HeldHeads.{coefs_at, coefs_from, placed};
+ghost use Rattle.run_stores.specs.HeldHeads.{coefs_at, coefs_from, placed};
 ghost use Rattle.held_lines.specs.HeadLines.{event_place, event_total, States, derived_place, entry_of_coef, IsReadFrom};
 
 use crate::head_lines::{HeadCoef, HeadDerived, HeadEvent};

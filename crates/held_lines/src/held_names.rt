@@ -2,7 +2,7 @@
 ghost use Rattle.std.specs.Prelude.{◌≡◌, ◌≢◌, ◌<◌, None, map, length, get_or, IfErr, IfOk, IfSome};
 ghost use Rattle.std.specs.List.{AllAdjacentBelow};
 ghost use Rattle.sqlite_trees.specs.Tree.{IsAscending};
-ghost use Rattle.prof_books.specs.Book.{name_of, no_name, IsHeld};
+ghost use Rattle.run_stores.specs.Book.{name_of, no_name, IsHeld};
 ghost use Rattle.run_stores.specs.Names.{IsNumberOf};
 ghost use Rattle.held_lines.specs.NameRows.{name_row, IsNameAt};
 

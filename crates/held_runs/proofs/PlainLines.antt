@@ -8,7 +8,7 @@ use Rattle.cg_formulas.specs.declared.heads.FileHead.{FileHead}
 use Rattle.plain_tables.specs.Changes.{has_run}
 use Rattle.plain_tables.specs.Tables.{Tables, EventRow}
 use Rattle.store_schema.specs.Tables.{text_or_null}
-use Rattle.prof_books.specs.HeldHeads.{CoefEntry, EventEntry, IsHeadIn, PlacedName, coef_of_line, coef_entries, derived_entries, event_of_line, event_entries, name_of_line}
+use Rattle.run_stores.specs.HeldHeads.{CoefEntry, EventEntry, IsHeadIn, PlacedName, coef_of_line, coef_entries, derived_entries, event_of_line, event_entries, name_of_line}
 use Rattle.run_stores.specs.SelfSums.{AreSelfSums, PlacedSum, self_of_line, sums_from}
 use Rattle.prof_store.specs.Totals.{number_in}
 use Rattle.prof_store.proofs.Listing.{read_back}

@@ -6,7 +6,7 @@ use Rattle.cost_rows.specs.declared.rows.CellRow.{CellRow}
 use Rattle.cost_rows.specs.declared.rows.StackRow.{StackRow}
 use Rattle.plain_tables.specs.Tables.{StoredCall as Call, StoredCell, StoredStack}
 use Rattle.store_schema.specs.Tables.{arc_columns, cell_columns, stack_columns}
-use Rattle.prof_books.specs.Book.{stack_held}
+use Rattle.run_stores.specs.Book.{stack_held}
 use Rattle.run_stores.specs.Walks.{CallsFoldTo, CellsFoldTo}
 use Rattle.held_runs.specs.declared.walks.Listed.TheVariants.{Calls, Cells, Stacks}
 use Rattle.held_runs.specs.Walks.{AreAllRead}

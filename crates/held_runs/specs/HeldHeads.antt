@@ -7,7 +7,7 @@ use Rattle.sqlite_trees.specs.Tree.{Trees}
 use Rattle.cg_formulas.specs.declared.heads.FileHead.{FileHead}
 use Rattle.store_schema.specs.Seen.{is_at}
 use Rattle.plain_tables.specs.Tables.{Tables}
-use Rattle.prof_books.specs.HeldHeads.{CoefEntry, EventEntry, IsSound, PlacedName, coef_entries, derived_entries, event_entries}
+use Rattle.run_stores.specs.HeldHeads.{CoefEntry, EventEntry, IsSound, PlacedName, coef_entries, derived_entries, event_entries}
 use Rattle.store_schema.specs.Tables.{number, text_or_null}
 use Rattle.held_runs.specs.HeadRows.{events_in_tables, derived_in_tables, coefs_in_tables, events_in_rows, derived_in_rows, coefs_in_rows}
 

@@ -1,7 +1,7 @@
 // Every stack of a run, handed on one at a time.
 ghost use Rattle.std.specs.Prelude.{◌≡◌, IfOk, fold};
 ghost use Rattle.std.specs.Result.{is_ok};
-ghost use Rattle.prof_books.specs.Book.{stacks_held};
+ghost use Rattle.run_stores.specs.Book.{stacks_held};
 ghost use Rattle.prof_store.specs.Shown.{Told};
 ghost use Rattle.held_runs.specs.Handed.{StacksFoldFrom};
 ghost use Rattle.held_runs.specs.declared.walks.Listed.TheVariants.{Stacks};

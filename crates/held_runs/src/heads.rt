@@ -1,7 +1,7 @@
 // The head of a run that is held.
 ghost use Rattle.std.specs.Prelude.{IfOk};
 ghost use Rattle.std.specs.Result.{is_ok};
-ghost use Rattle.prof_books.specs.HeldHeads.{IsHeadIn};
+ghost use Rattle.run_stores.specs.HeldHeads.{IsHeadIn};
 ghost use Rattle.held_runs.specs.HeldHeads.{IsHeadAt, IsReadIn, IsReadAt};
 ghost use Rattle.prof_store.specs.Shown.{Told, Found, Asks};
 

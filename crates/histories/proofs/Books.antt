@@ -1,6 +1,6 @@
 -- Runs of the book that are those of files.
 use Rattle.std.proofs.Common.{◌≡◌, ℕ, Bool, true, false, not, ◌==◌, List, [], ◌∷◌, ◌++◌, filter, ap, cond}
-use Rattle.prof_books.specs.Book.{RunBook}
+use Rattle.run_stores.specs.Book.{RunBook}
 use Rattle.histories.specs.History.{File}
 use Rattle.histories.specs.Representation.{IsBookOf, AreBooksOf}
 

@@ -2,7 +2,7 @@
 use Rattle.std.proofs.Common.{◌≡◌, ℕ, List, [], ◌∷◌, ◌++◌, filter, Option, Some, None, refl, sym, ap, subst, ◌∙◌}
 use Rattle.histories.specs.Formats.{Format}
 use Rattle.plain_tables.specs.Tables.{Tables, GroupRow}
-use Rattle.prof_books.specs.Book.{book_of}
+use Rattle.run_stores.specs.Book.{book_of}
 use Rattle.byte_io.specs.Outcomes.{Outcome, bytes_of}
 use Rattle.histories.specs.History.{Import, Step, History, File, held, next, groups, is_member, baseline}
 use Rattle.histories.specs.Legal.{IsLegal, IsHistory}

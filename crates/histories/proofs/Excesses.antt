@@ -7,7 +7,7 @@ use Rattle.cost_rows.specs.declared.limits.Side.TheVariants as sides
 use Rattle.cost_rows.specs.declared.rows.FileTotals.{FileTotals}
 use Rattle.plain_tables.specs.Tables.{Tables}
 use Rattle.plain_tables.specs.Sound.{AreSound}
-use Rattle.prof_books.specs.Totals.{held_self, held_calls, IsHeldIn}
+use Rattle.run_stores.specs.Totals.{held_self, held_calls, IsHeldIn}
 use Rattle.profile_records.specs.declared.kinds.Kind.{Kind}
 use Rattle.histories.specs.Formats.{today}
 use Rattle.histories.specs.Files.{events_of, rows_of}

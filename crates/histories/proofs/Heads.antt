@@ -16,14 +16,14 @@ use Rattle.callgrind_reader.specs.Files.{definitions_by, events_by}
 use Rattle.report_texts.specs.Verifying.{verified}
 use Rattle.cost_rows.proofs.WalkSumsLemmas.{column_from, column-at, is_above, none_more, nothing_each_way, one_more}
 use Rattle.plain_tables.specs.Tables.{Tables, RunRow}
-use Rattle.prof_books.specs.Book.{run_held}
-use Rattle.prof_books.specs.Heads.{coef_rows_at, coef_rows_from, derived_rows_from, stated_at}
+use Rattle.run_stores.specs.Book.{run_held}
+use Rattle.run_stores.specs.Heads.{coef_rows_at, coef_rows_from, derived_rows_from, stated_at}
 use Rattle.histories.specs.Formats.{Format, Callgrind, Folded}
 use Rattle.histories.specs.Files.{derived_of, events_of, stated_of}
 use Rattle.histories.specs.History.{History, File, held}
 use Rattle.histories.specs.Representation.{IsBookOf, TablesRepresent, event_rows_from}
 use Rattle.histories.proofs.Tests.{all_map, all_on}
-use Rattle.prof_books.specs.HeldHeads.{CoefEntry, EventEntry, IsHeadIn, PlacedName, coef_of_line, coefs_at, coefs_from, derived_entries, event_of_line, events_from, event_entries, name_of_line, placed}
+use Rattle.run_stores.specs.HeldHeads.{CoefEntry, EventEntry, IsHeadIn, PlacedName, coef_of_line, coefs_at, coefs_from, derived_entries, event_of_line, events_from, event_entries, name_of_line, placed}
 use Rattle.histories.specs.Told.{HeadAgrees}
 use Rattle.histories.proofs.Runs.{run_of}
 use Rattle.histories.proofs.Short.{IsShort, held_short}

@@ -11,16 +11,16 @@ use Rattle.cost_rows.proofs.WalkSumsLemmas.{walked-cells, walked-costs, walked-c
 use Rattle.plain_tables.specs.Tables.{Tables, GroupRow}
 use Rattle.plain_tables.specs.Sound.{AreSound}
 use Rattle.plain_tables.specs.Changes as changes
-use Rattle.prof_books.specs.Book.{Book, book_of, with_run_book}
-use Rattle.prof_books.specs.Heads as heads
-use Rattle.prof_books.specs.Heads.{event_rows, derived_rows, coef_rows, derived_rows_from, coef_rows_from, stated_at}
-use Rattle.prof_books.specs.Runs.{run_row_of, with_file, file_book}
+use Rattle.run_stores.specs.Book.{Book, book_of, with_run_book}
+use Rattle.run_stores.specs.Heads as heads
+use Rattle.run_stores.specs.Heads.{event_rows, derived_rows, coef_rows, derived_rows_from, coef_rows_from, stated_at}
+use Rattle.run_stores.specs.BookRuns.{run_row_of, with_file, file_book}
 use Rattle.profile_records.specs.Kinds.{kind_number}
 use Rattle.profile_records.specs.declared.kinds.Kind.{Kind}
 use Rattle.profile_records.specs.declared.kinds.Kind.TheVariants.{Callgrind, Folded}
-use Rattle.prof_books.proofs.Books.{book_insert, named_insert}
-use Rattle.prof_books.proofs.Filed.{head_of_run}
-use Rattle.prof_books.proofs.Parts.{counts_are, costs_are, calls_are}
+use Rattle.run_stores.proofs.Books.{book_insert, named_insert}
+use Rattle.run_stores.proofs.Filed.{head_of_run}
+use Rattle.run_stores.proofs.Parts.{counts_are, costs_are, calls_are}
 use Rattle.histories.specs.Formats.{kind_in, today}
 use Rattle.histories.specs.Files.{events_of, derived_of, stated_of, IsHeadOf, rows_of}
 use Rattle.byte_io.specs.Outcomes.{Outcome, bytes_of}
@@ -29,7 +29,7 @@ use Rattle.histories.specs.Legal.{IsLegal}
 use Rattle.histories.specs.Representation.{IsBookOf, AreBooksOf, TablesRepresent, event_rows_from}
 use Rattle.histories.specs.declared.answers.Answer.TheVariants.{Run}
 use Rattle.histories.specs.declared.limits.Limits.{Limits}
-use Rattle.run_order.proofs.Ordered.{file_in_order}
+use Rattle.run_stores.proofs.Ordered.{file_in_order}
 use Rattle.histories.proofs.Baselines.{baseline_other}
 use Rattle.histories.proofs.Books.{books_push}
 use Rattle.histories.proofs.Groups.{groups_other}

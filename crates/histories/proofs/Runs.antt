@@ -6,9 +6,9 @@ use Rattle.plain_tables.specs.Lists.{Has}
 use Rattle.cost_rows.specs.Sums.{call_sum, count_sum, has_call}
 use Rattle.plain_tables.specs.Tables.{Tables, RunRow, GroupRow}
 use Rattle.plain_tables.specs.Changes as changes
-use Rattle.prof_books.specs.Book.{run_held}
-use Rattle.prof_books.specs.Parts.{parts_sum, has_part}
-use Rattle.prof_books.proofs.Parts.{counts_are, costs_are, calls_are}
+use Rattle.run_stores.specs.Book.{run_held}
+use Rattle.run_stores.specs.Parts.{parts_sum, has_part}
+use Rattle.run_stores.proofs.Parts.{counts_are, costs_are, calls_are}
 use Rattle.histories.specs.Files.{records_of}
 use Rattle.histories.specs.History.{History, File, held, baseline}
 use Rattle.histories.specs.Representation.{AreBooksOf, IsBookOf, TablesRepresent}

@@ -7,7 +7,7 @@ use Rattle.std.specs.Ordering.{nat_cmp}
 use Rattle.std.specs.declared.cmp.Ordering.TheVariants.{Less}
 use Rattle.std.proofs.lemmas.Bool.{eqb-true, ne_eqb}
 use Rattle.plain_tables.specs.Tables.{Tables, RunRow}
-use Rattle.prof_books.specs.Book.{run_held}
+use Rattle.run_stores.specs.Book.{run_held}
 use Rattle.histories.specs.History.{History, File, held, is_member}
 use Rattle.histories.specs.Legal.{IsHistory}
 use Rattle.histories.specs.SelectedRuns.{selects_in, AreSelected, SelectionAgrees}

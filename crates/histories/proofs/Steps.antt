@@ -7,8 +7,8 @@ use Rattle.cost_rows.proofs.NamingLemmas.{same_bytes}
 use Rattle.plain_tables.specs.Tables.{Tables, GroupRow, MemberRow, new_tables}
 use Rattle.plain_tables.specs.Changes as changes
 use Rattle.plain_tables.specs.Changes.{without_run, has_baseline, is_baseline, unbased, is_named, with_group, without_group, joined, with_member, without_member, rebased, with_baseline, has_member}
-use Rattle.prof_books.specs.Book.{book_of, Book}
-use Rattle.prof_books.proofs.Books.{book_dropped, named_dropped, named_grouped, named_new}
+use Rattle.run_stores.specs.Book.{book_of, Book}
+use Rattle.run_stores.proofs.Books.{book_dropped, named_dropped, named_grouped, named_new}
 use Rattle.histories.specs.History.{Command, Remove, MakeGroup, DropGroup, Join, Leave, SetBaseline, History, with_step, held, is_member, baseline}
 use Rattle.histories.specs.Legal.{IsLegal}
 use Rattle.histories.specs.Representation.{AreBooksOf, TablesRepresent}
@@ -22,7 +22,7 @@ use Rattle.histories.proofs.Groups.{groups_other, groups_same, groups_made, grou
 use Rattle.histories.proofs.Held.{IsStill, held_still, held_done, held_removed, next_still, next_done}
 use Rattle.histories.proofs.Invariants.{no_baseline}
 use Rattle.histories.proofs.Members.{member_other, member_made, member_based, member_removed, member_dropped, member_left, member_joined}
-use Rattle.run_order.proofs.Ordered.{new_in_order, with_baseline_in_order, with_group_in_order, with_member_in_order, without_group_in_order, without_member_in_order, without_run_in_order}
+use Rattle.run_stores.proofs.Ordered.{new_in_order, with_baseline_in_order, with_group_in_order, with_member_in_order, without_group_in_order, without_member_in_order, without_run_in_order}
 use Rattle.histories.proofs.Tests.{all_on, all_map, all_push, any-append, any-filter, or-false, number-flip, bytes-flip}
 use Rattle.histories.proofs.StepsTo.{history_more}
 

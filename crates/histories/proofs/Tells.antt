@@ -9,8 +9,8 @@ use Rattle.plain_tables.specs.Lists.{Has}
 use Rattle.cost_rows.proofs.NamingLemmas.{bytes-same}
 use Rattle.plain_tables.specs.Tables.{Tables, RunRow, GroupRow}
 use Rattle.plain_tables.specs.Changes as changes
-use Rattle.prof_books.specs.Book.{run_held}
-use Rattle.prof_books.specs.Entries.{held_run}
+use Rattle.run_stores.specs.Book.{run_held}
+use Rattle.run_stores.specs.BookEntries.{held_run}
 use Rattle.histories.specs.History.{History, File, held, next, groups}
 use Rattle.histories.specs.Legal.{number_of, has_run, has_group}
 use Rattle.histories.specs.Representation.{AreBooksOf, TablesRepresent, file_run}

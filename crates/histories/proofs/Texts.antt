@@ -12,7 +12,7 @@ use Rattle.cost_rows.proofs.NamingLemmas.{same_bytes}
 use Rattle.sha2.specs.Sha256.{sha256}
 use Rattle.plain_tables.specs.Tables.{Tables, GroupRow, MemberRow}
 use Rattle.plain_tables.specs.Changes as changes
-use Rattle.prof_books.specs.Entries.{HeldRun, held_run}
+use Rattle.run_stores.specs.BookEntries.{HeldRun, held_run}
 use Rattle.profile_records.specs.Kinds.{kind_number}
 use Rattle.profile_records.specs.declared.kinds.Kind.{Kind}
 use Rattle.profile_records.specs.declared.kinds.Kind.TheVariants.{Callgrind, Folded}

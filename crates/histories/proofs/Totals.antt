@@ -7,9 +7,9 @@ use Rattle.std.proofs.lemmas.Bool.{eqb-true, ne_eqb}
 use Rattle.std.proofs.lemmas.Bool.Decides.{nat_tests}
 use Rattle.plain_tables.specs.Tables.{Tables, RunRow, EventRow}
 use Rattle.plain_tables.specs.Sound.{AreSound}
-use Rattle.prof_books.specs.Book.{run_held}
-use Rattle.prof_books.specs.Totals.{held_self, held_calls, held_count, lines_named}
-use Rattle.prof_books.specs.Heads.{stated_at}
+use Rattle.run_stores.specs.Book.{run_held}
+use Rattle.run_stores.specs.Totals.{held_self, held_calls, held_count, lines_named}
+use Rattle.run_stores.specs.Heads.{stated_at}
 use Rattle.histories.specs.Files.{events_of, stated_of}
 use Rattle.histories.specs.History.{History, File, held}
 use Rattle.histories.specs.Representation.{AreBooksOf, TablesRepresent, event_rows_from}

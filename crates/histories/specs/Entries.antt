@@ -5,7 +5,7 @@ use Rattle.std.specs.List.{AllAdjacentBelow, AllByRecursion}
 use Rattle.std.specs.Ordering.{nat_cmp}
 use Rattle.std.specs.declared.cmp.Ordering.TheVariants.{Less}
 use Rattle.plain_tables.specs.Tables.{Tables, GroupRow, MemberRow}
-use Rattle.prof_books.specs.Entries.{HeldRun, held_run}
+use Rattle.run_stores.specs.BookEntries.{HeldRun, held_run}
 use Rattle.profile_records.specs.Kinds.{kind_number}
 use Rattle.profile_records.specs.declared.kinds.Kind.{Kind}
 use Rattle.histories.specs.History.{History}

@@ -8,16 +8,16 @@ use Rattle.cost_rows.specs.StackSums.{frames_sum}
 use Rattle.cost_rows.specs.WalkSums.{rows_cost, stacks_count}
 use Rattle.cost_rows.specs.Walks.{HaveCosts, HaveCounts}
 use Rattle.plain_tables.specs.Changes.{has_member}
-use Rattle.run_order.specs.Order.{AreInOrder}
+use Rattle.run_stores.specs.Order.{AreInOrder}
 use Rattle.plain_tables.specs.Tables.{Tables, EventRow, GroupRow}
-use Rattle.prof_books.specs.Book.{RunBook, book_of, IsNamed}
-use Rattle.prof_books.specs.Entries.{HeldRun}
-use Rattle.prof_books.specs.Heads.{stated_at, derived_rows_from, coef_rows_from}
+use Rattle.run_stores.specs.Book.{RunBook, book_of, IsNamed}
+use Rattle.run_stores.specs.BookEntries.{HeldRun}
+use Rattle.run_stores.specs.Heads.{stated_at, derived_rows_from, coef_rows_from}
 use Rattle.plain_tables.specs.Sound.{AreSound}
-use Rattle.prof_books.specs.Runs.{with_file}
+use Rattle.run_stores.specs.BookRuns.{with_file}
 use Rattle.profile_records.specs.Kinds.{kind_number}
 use Rattle.profile_records.specs.declared.kinds.Kind.{Kind}
-use Rattle.prof_books.specs.Parts.{parts_sum, has_part, AreOfRows}
+use Rattle.run_stores.specs.Parts.{parts_sum, has_part, AreOfRows}
 use Rattle.histories.specs.Formats.{kind_in, today}
 use Rattle.histories.specs.Files.{events_of, derived_of, stated_of, records_of, stacks_of, rows_of, IsHeadOf}
 use Rattle.byte_io.specs.Outcomes.{Outcome, bytes_of}

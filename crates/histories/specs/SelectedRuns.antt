@@ -4,7 +4,7 @@ use Rattle.std.specs.List.Sorted.{IsStrictlySortedBy}
 use Rattle.std.specs.Ordering.{nat_cmp}
 use Rattle.plain_tables.specs.Changes.{has_member}
 use Rattle.plain_tables.specs.Tables.{Tables, RunRow}
-use Rattle.prof_books.specs.Book.{run_held}
+use Rattle.run_stores.specs.Book.{run_held}
 use Rattle.histories.specs.History.{History, File, held, members}
 use Rattle.histories.specs.Legal.{has_run}
 use Rattle.histories.specs.Selections.{numbers_of, selected}

@@ -15,10 +15,10 @@ use Rattle.cost_rows.specs.declared.rows.ArcRow.{ArcRow}
 use Rattle.cost_rows.specs.declared.rows.FileTotals.{FileTotals}
 use Rattle.plain_tables.specs.Changes as changes
 use Rattle.plain_tables.specs.Tables.{Tables, RunRow, GroupRow, MemberRow}
-use Rattle.prof_books.specs.Book.{cells_held, parts_held, parts_of, run_held, stacks_held}
-use Rattle.prof_books.specs.Entries.{held_run}
-use Rattle.prof_books.specs.Parts.{AreOfRows}
-use Rattle.prof_books.specs.Totals.{held_self, held_calls, IsHeldIn}
+use Rattle.run_stores.specs.Book.{cells_held, parts_held, parts_of, run_held, stacks_held}
+use Rattle.run_stores.specs.BookEntries.{held_run}
+use Rattle.run_stores.specs.Parts.{AreOfRows}
+use Rattle.run_stores.specs.Totals.{held_self, held_calls, IsHeldIn}
 use Rattle.profile_records.specs.declared.kinds.Kind.{Kind}
 use Rattle.histories.specs.Formats.{today}
 use Rattle.histories.specs.Files.{events_of, derived_of, records_of, rows_of, stacks_of, stated_of}

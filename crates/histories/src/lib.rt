@@ -1,5 +1,5 @@
 //! What commands are answered, and what they make of a warehouse: the definitions of a history, of
-//! what is held after it, and of its legal answers.
+//! what is held after it, of its legal answers, and of stores that have it.
 #![tactic(auto)]
 
 // What commands are answered.
@@ -8,6 +8,8 @@ mod answers;
 mod laws;
 // How much a warehouse holds.
 mod limits;
+// The answer that is expected, or a refusal (specs/Answered.antt, Refusals.antt).
+mod stored_answers;
 
 pub use answers::{Answer, Excess, Refusal};
 pub use laws::{
@@ -18,3 +20,4 @@ pub use laws::{
     tables_stay_through_what_changes_nothing, the_first_grammar_knows_no_thread, the_mark_stays,
 };
 pub use limits::Limits;
+pub use stored_answers::answer_of;

@@ -1,6 +1,6 @@
 //! One HTTP exchange, without a store: the head of a request is read from a stream and becomes what is
 //! asked, its body is given a piece at a time, and an answer becomes the bytes of a response, which are
-//! written.
+//! written. The clients of a port wait beside each other, so that one which sends nothing holds up nobody.
 #![tactic(auto)]
 
 // What a request asks for (specs/Asked.antt).
@@ -35,10 +35,18 @@ mod sending;
 mod streams;
 // Texts cut at a byte (specs/Texts.antt).
 mod texts;
+// The clients of a port.
+mod clients;
+// A socket as a stream, with its deadlines.
+mod connection;
+// A client that waits.
+mod waiting;
 
 pub use asked::PathCommand;
 pub use bodies::{Body, body_comes};
 pub use checks::{Request, SOURCE_LIMIT, read_request};
+pub use clients::{Client, Clients};
+pub use connection::Connection;
 pub use failings::Failing;
 pub use heads::{FIELD_LIMIT, HEAD_LIMIT, Head, find_head};
 pub use http::StatusCode;

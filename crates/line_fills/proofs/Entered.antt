@@ -16,9 +16,9 @@ use Rattle.sqlite_trees.specs.declared.store.Shape.TheVariants as shape
 use Rattle.sqlite_trees.proofs.ListLemmas.{all-permutation}
 use Rattle.sqlite_sql.specs.Catalog.{entry_of, IsIndexOf}
 use Rattle.page_edits.specs.Places.{place_all}
-use Rattle.table_changes.specs.Fills.{Fills}
-use Rattle.table_changes.specs.Keys.{HeadsDiffer, same_head}
-use Rattle.table_changes.proofs.Entries.{insert_entry_same, rowid_of_entry}
+use Rattle.page_places.specs.Fills.{Fills}
+use Rattle.page_places.specs.Keys.{HeadsDiffer, same_head}
+use Rattle.page_places.proofs.Entries.{insert_entry_same, rowid_of_entry}
 use Rattle.line_fills.specs.Placed.{AreEntriesOf}
 
 -- ---- lists of which each element of one differs from each of the other

@@ -15,11 +15,11 @@ use Rattle.page_edits.specs.Places.{place_all}
 use Rattle.page_files.specs.declared.files.PageFile.{PageFile}
 use Rattle.page_files.specs.Files.{IsFaithful, IsUsable}
 use Rattle.page_files.specs.Held.{Writes}
-use Rattle.table_changes.specs.Fills.{Fills}
-use Rattle.row_writes.specs.declared.places.IndexPlace.{IndexPlace}
-use Rattle.row_writes.specs.Places.{AreIndexPlaces, IsIndexPlace}
-use Rattle.row_writes.proofs.Changed.{with_other, with_same}
-use Rattle.row_writes.proofs.Filling.{first_place, none_left}
+use Rattle.page_places.specs.Fills.{Fills}
+use Rattle.page_places.specs.declared.places.IndexPlace.{IndexPlace}
+use Rattle.page_places.specs.Places.{AreIndexPlaces, IsIndexPlace}
+use Rattle.page_places.proofs.Changed.{with_other, with_same}
+use Rattle.page_places.proofs.Filling.{first_place, none_left}
 use Rattle.line_fills.specs.Filled.{IsIndexFilled}
 use Rattle.line_fills.specs.Placed.{AreEntriesOf, CanBeFilled, HasEntries}
 use Rattle.line_fills.proofs.Entered.{each, entered}

@@ -6,7 +6,7 @@ use Rattle.sqlite_value.specs.declared.value.Value.{Value}
 use Rattle.sqlite_value.specs.declared.value.Value.TheVariants.{Int}
 use Rattle.sqlite_value.specs.Order.{Row, value_cmp}
 use Rattle.sqlite_value.proofs.OrderLemmas.{value_cmp-Int, value_cmp_total}
-use Rattle.row_writes.specs.Changes.{AreBelow}
+use Rattle.page_places.specs.Changes.{AreBelow}
 use Rattle.line_fills.specs.Rows.{first_from}
 
 less_of : (a b : ℤ) → int_lt a b ≡ true → int_cmp a b ≡ Less

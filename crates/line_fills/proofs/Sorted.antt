@@ -8,7 +8,7 @@ use Rattle.plain_tables.specs.Lists.{IsAscending}
 use Rattle.sqlite_trees.proofs.ListLemmas.{map-map}
 use Rattle.sqlite_value.specs.Order.{Row, column, row_cmp}
 use Rattle.sqlite_sql.specs.Catalog.{entry_of}
-use Rattle.table_changes.proofs.Distinct.{differ_by_rising}
+use Rattle.page_places.proofs.Distinct.{differ_by_rising}
 use Rattle.line_fills.specs.Placed.{AreEntriesOf}
 use Rattle.line_fills.specs.Rows.{KeysRise, entries_at, key_at, numbered, row_at}
 use Rattle.line_fills.proofs.Numbers.{numbered_at_places}

@@ -19,7 +19,7 @@ use Rattle.page_edits.proofs.Placing.{place_all-append}
 use Rattle.page_files.specs.declared.files.PageFile.{PageFile}
 use Rattle.page_files.specs.Held.{Writes}
 use Rattle.page_files.specs.Writes.{AtTree}
-use Rattle.row_writes.proofs.Changed.{with_same}
+use Rattle.page_places.proofs.Changed.{with_same}
 
 pub on_ok : {T E : Type 0} (r : Result T E) {P Q : Type 0} → (P → Q) → OnOk r P → OnOk r Q
 on_ok (Ok x) so p = so p

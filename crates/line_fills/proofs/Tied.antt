@@ -15,7 +15,7 @@ use Rattle.sqlite_value.specs.declared.value.Value.{Value}
 use Rattle.sqlite_value.specs.declared.value.Value.TheVariants.{Int, Null}
 use Rattle.sqlite_value.specs.Order.{Row, column, row_cmp}
 use Rattle.sqlite_value.proofs.OrderLemmas.{row_cmp_total, value_cmp_total}
-use Rattle.table_changes.specs.Keys.{HeadsDiffer, same_head}
+use Rattle.page_places.specs.Keys.{HeadsDiffer, same_head}
 use Rattle.line_fills.specs.Causes.{CanEnter}
 use Rattle.line_fills.specs.Rows.{IsTied, SortsByRank, key_at, numbered, rank_at, row_at}
 use Rattle.line_fills.proofs.Numbers.{numbered_at_places}

@@ -18,11 +18,11 @@ use Rattle.page_edits.specs.Places.{place_all}
 use Rattle.page_edits.proofs.Ordered.{table_above}
 use Rattle.page_files.specs.declared.files.PageFile.{PageFile}
 use Rattle.page_files.specs.Held.{Writes}
-use Rattle.row_writes.specs.declared.places.Place.{Place}
-use Rattle.row_writes.specs.Changes.{AreBelow, AreIndexed}
-use Rattle.row_writes.specs.Places.{indexes_of, IsPlaceOf}
-use Rattle.row_writes.proofs.Changed.{mine_of, table_shaped, with_other, with_same}
-use Rattle.row_writes.proofs.Spaced.{indexes_apart, table_apart}
+use Rattle.page_places.specs.declared.places.Place.{Place}
+use Rattle.page_places.specs.Changes.{AreBelow, AreIndexed}
+use Rattle.page_places.specs.Places.{indexes_of, IsPlaceOf}
+use Rattle.page_places.proofs.Changed.{mine_of, table_shaped, with_other, with_same}
+use Rattle.page_places.proofs.Spaced.{indexes_apart, table_apart}
 use Rattle.line_fills.specs.Filled.{HasFilled, IsIndexFilled}
 use Rattle.line_fills.specs.Placed.{CanBeFilled, HasEntries}
 use Rattle.line_fills.specs.Rows.{first_from, numbered, rows_behind}

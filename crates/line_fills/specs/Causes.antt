@@ -10,7 +10,7 @@ use Rattle.sqlite_sql.specs.Catalog.{entry_of}
 use Rattle.sqlite_trees.specs.View.{IsStorable}
 use Rattle.sqlite_value.specs.declared.value.Value.{Value}
 use Rattle.sqlite_value.specs.Order.{Row, bytes, number}
-use Rattle.table_changes.specs.Keys.{HeadsDiffer}
+use Rattle.page_places.specs.Keys.{HeadsDiffer}
 use Rattle.line_fills.specs.Rows.{numbered}
 
 -- memory ran out, or what was given does not fit

@@ -12,15 +12,15 @@ use Rattle.sqlite_trees.specs.View.{IsShaped}
 use Rattle.sqlite_value.specs.Order.{Row}
 use Rattle.page_files.specs.declared.files.PageFile.{PageFile}
 use Rattle.page_files.specs.Held.{Writes}
-use Rattle.table_changes.specs.Changes.{SparesBut}
-use Rattle.table_changes.specs.Fills.{Fills}
+use Rattle.page_places.specs.TableChanges.{SparesBut}
+use Rattle.page_places.specs.Fills.{Fills}
 use Rattle.page_places.specs.Failures.{FailsToStore}
 use Rattle.plain_tables.specs.declared.errors.StoreError.{StoreError}
-use Rattle.row_writes.specs.declared.places.Place.{Place}
+use Rattle.page_places.specs.declared.places.Place.{Place}
 use Rattle.line_fills.specs.Causes.{CanBeFilledIn}
 use Rattle.line_fills.specs.Rows.{rows_behind}
-use Rattle.row_writes.specs.Changes.{AtTable}
-use Rattle.row_writes.specs.Places.{indexes_of}
+use Rattle.page_places.specs.Changes.{AtTable}
+use Rattle.page_places.specs.Places.{indexes_of}
 
 -- the trees of a table and of its indexes
 abbrev pub trees_over : Schema → Table → List ℕ

@@ -17,10 +17,10 @@ use Rattle.page_files.specs.declared.files.PageFile.{PageFile}
 use Rattle.page_files.specs.Files.{IsFaithful}
 use Rattle.page_files.specs.Held.{Writes}
 use Rattle.page_files.specs.Writes.{AtTree}
-use Rattle.table_changes.specs.Changes.{SparesBut}
-use Rattle.table_changes.specs.Keys.{HeadsDiffer}
-use Rattle.row_writes.specs.declared.places.IndexPlace.{IndexPlace}
-use Rattle.row_writes.specs.Places.{AreIndexPlaces}
+use Rattle.page_places.specs.TableChanges.{SparesBut}
+use Rattle.page_places.specs.Keys.{HeadsDiffer}
+use Rattle.page_places.specs.declared.places.IndexPlace.{IndexPlace}
+use Rattle.page_places.specs.Places.{AreIndexPlaces}
 use Rattle.page_places.specs.Failures.{FailsToStore}
 use Rattle.plain_tables.specs.declared.errors.StoreError.{StoreError}
 use Rattle.line_fills.specs.Causes.{CanEnter}

@@ -10,7 +10,7 @@ use Rattle.cost_rows.specs.Sums.{Spot}
 use Rattle.cost_rows.specs.declared.keys.Key.{Key}
 use Rattle.cost_rows.specs.declared.rows.CellRow.{CellRow}
 use Rattle.plain_tables.specs.Tables.{NameRow}
-use Rattle.prof_books.specs.Book.{IsHeld}
+use Rattle.run_stores.specs.Book.{IsHeld}
 use Rattle.report_texts.specs.declared.cuts.Cut.{Cut}
 use Rattle.run_stores.specs.Names.{named_cell, AreApart}
 use Rattle.number_sums.specs.Named.{named_sum}

@@ -1,9 +1,11 @@
-pub mod NumberLemmas
-pub mod SlotLemmas
-pub mod NamedSums
-pub mod ToldLemmas
-pub mod NamedLemmas
 pub mod EnoughLemmas
-pub mod OnceNamed
 pub mod EnoughNamed
 pub mod Examples
+pub mod NamedLemmas
+pub mod NamedRowLemmas
+pub mod NamedSums
+pub mod NumberLemmas
+pub mod OnceNamed
+pub mod SlotLemmas
+pub mod ToldLemmas
+pub mod Walks

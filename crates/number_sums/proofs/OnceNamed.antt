@@ -21,7 +21,7 @@ use Rattle.cost_rows.specs.declared.rows.CellRow.{CellRow}
 use Rattle.cost_rows.proofs.KeysLemmas.{named_cmp-apart}
 use Rattle.cost_rows.proofs.MergeLemmas.{sorted-merge}
 use Rattle.plain_tables.specs.Tables.{NameRow}
-use Rattle.prof_books.specs.Book.{IsHeld}
+use Rattle.run_stores.specs.Book.{IsHeld}
 use Rattle.run_stores.specs.Names.{named_cell, AreApart}
 use Rattle.number_sums.specs.Named.{named_sum}
 use Rattle.number_sums.specs.Sums.{SumsByNumber, number_row, number_rows, numbers_cmp, numbers_part, numbers_told, with_number}

@@ -5,7 +5,7 @@ use Rattle.cost_rows.specs.KeySums.{Sums, with_row}
 use Rattle.cost_rows.specs.Sums.{Spot}
 use Rattle.cost_rows.specs.declared.keys.Key.{Key}
 use Rattle.plain_tables.specs.Tables.{NameRow}
-use Rattle.prof_books.specs.Book.{name_of, IsHeld}
+use Rattle.run_stores.specs.Book.{name_of, IsHeld}
 use Rattle.run_stores.specs.Names.{named_cell}
 use Rattle.number_sums.specs.Sums.{number_row, number_rows}
 use Rattle.number_sums.specs.declared.parts.NumberPart.{NumberPart}

@@ -4,7 +4,7 @@ ghost use Rattle.std.specs.List.{AllByRecursion};
 ghost use Rattle.cost_rows.specs.KeySums.{sums_by};
 ghost use Rattle.cost_rows.specs.declared.keys.Key.{Key};
 ghost use Rattle.cost_rows.specs.declared.rows.CellRow.{CellRow};
-ghost use Rattle.prof_books.specs.Book.{IsHeld};
+ghost use Rattle.run_stores.specs.Book.{IsHeld};
 ghost use Rattle.number_sums.specs.Named.{named_sum};
 ghost use Rattle.number_sums.specs.Sums.{number_rows, numbers_told, with_number};
 ghost use Rattle.plain_tables.specs.Tables.{NameRow};

@@ -6,7 +6,7 @@ ghost use Rattle.cost_rows.specs.KeySums.{sums_by};
 ghost use Rattle.cost_rows.specs.Plain.{plain_cell};
 ghost use Rattle.plain_tables.specs.Tables.{NameRow};
 ghost use Rattle.plain_tables.specs.declared.errors.StoreError.TheVariants.{Store};
-ghost use Rattle.prof_books.specs.Book.{IsHeld};
+ghost use Rattle.run_stores.specs.Book.{IsHeld};
 ghost use Rattle.run_stores.specs.Names.{named_cell};
 ghost use Rattle.number_sums.specs.Named.{merged_by, named_sum, AreOf};
 ghost use Rattle.number_sums.specs.Sums.{number_rows, numbers_told, numbers_total, told};
@@ -16,7 +16,7 @@ use crate::parts::NumberPart;
 use crate::sums::NumberSums;
 use cost_reports::LentSums;
 use cost_rows::{CellRow, Key};
-use named_rows::held_name;
+use crate::held_name;
 use run_stores::{NameTable, StoreError};
 use std::alloc::Global;
 

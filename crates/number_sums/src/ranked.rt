@@ -5,7 +5,7 @@ ghost use Rattle.cost_reports.specs.Enough.{AreEnough};
 ghost use Rattle.cost_reports.specs.Rows.{sum_of_row};
 ghost use Rattle.cost_rows.specs.Plain.{plain_cell};
 ghost use Rattle.plain_tables.specs.declared.errors.StoreError.TheVariants.{Store};
-ghost use Rattle.prof_books.specs.Book.{IsHeld};
+ghost use Rattle.run_stores.specs.Book.{IsHeld};
 ghost use Rattle.number_sums.specs.Named.{named_sum};
 ghost use Rattle.number_sums.specs.Ranked.{sums_of, CostsFall, IsApart, Reached};
 ghost use Rattle.number_sums.specs.Sums.{numbers_told, numbers_total};

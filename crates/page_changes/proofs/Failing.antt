@@ -14,9 +14,9 @@ use Rattle.page_rows.specs.declared.errors.WalkError.{WalkError}
 use Rattle.page_rows.specs.declared.errors.WalkError.TheVariants as walks
 use Rattle.plain_tables.specs.declared.errors.StoreError.{StoreError}
 use Rattle.plain_tables.specs.declared.errors.StoreError.TheVariants.{Store}
-use Rattle.row_writes.specs.Causes.{FailsToNumber}
-use Rattle.row_writes.specs.declared.errors.RowError.{RowError}
-use Rattle.row_writes.specs.declared.errors.RowError.TheVariants.{Pages, Unstorable, NoRowid}
+use Rattle.page_places.specs.Causes.{FailsToNumber}
+use Rattle.page_places.specs.declared.errors.RowError.{RowError}
+use Rattle.page_places.specs.declared.errors.RowError.TheVariants.{Pages, Unstorable, NoRowid}
 use Rattle.page_changes.specs.Causes.{CanFollow, FailsToSeek}
 use Rattle.page_changes.specs.Named.{HasOutOfForm, IsRefused}
 

@@ -16,10 +16,10 @@ use Rattle.page_places.specs.declared.roots.StoreRoots.{StoreRoots}
 use Rattle.page_places.specs.Roots.{AreRoots}
 use Rattle.page_places.proofs.Placing.{index_placed_at, placed_at}
 use Rattle.plain_tables.specs.Tables.{Tables}
-use Rattle.row_writes.specs.declared.places.IndexPlace.{IndexPlace}
-use Rattle.row_writes.specs.declared.places.Place.{Place}
-use Rattle.row_writes.specs.Changes.{Shows}
-use Rattle.row_writes.specs.Places.{AreIndexPlaces, IsIndexPlace, indexes_of}
+use Rattle.page_places.specs.declared.places.IndexPlace.{IndexPlace}
+use Rattle.page_places.specs.declared.places.Place.{Place}
+use Rattle.page_places.specs.Changes.{Shows}
+use Rattle.page_places.specs.Places.{AreIndexPlaces, IsIndexPlace, indexes_of}
 use Rattle.store_schema.specs.Schema.{schema_two, grp_at, member_at}
 use Rattle.store_schema.specs.Tables.{Holds}
 

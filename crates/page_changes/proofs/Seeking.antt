@@ -10,8 +10,8 @@ use Rattle.plain_tables.specs.Changes.{has_group, has_member, is_member, is_name
 use Rattle.plain_tables.specs.Tables.{Tables, GroupRow, MemberRow}
 use Rattle.store_schema.specs.Schema.{grp_at, member_at}
 use Rattle.store_schema.specs.Tables.{Holds, group_columns, member_columns}
-use Rattle.table_changes.proofs.Contents.{line_of, row_of_line}
-use Rattle.table_changes.proofs.Store.{groups_lined, members_lined}
+use Rattle.page_places.proofs.Contents.{line_of, row_of_line}
+use Rattle.page_places.proofs.Store.{groups_lined, members_lined}
 use Rattle.page_changes.specs.Causes.{HasNarrowBaselines, HasNarrowMembers}
 use Rattle.page_changes.specs.Named.{CanBeFound, IsNarrow, IsOther, IsOutOfForm, named}
 

@@ -22,8 +22,8 @@ use Rattle.plain_tables.specs.Changes.{has_group, has_member, has_run}
 use Rattle.plain_tables.specs.Tables.{Tables, GroupRow, MemberRow}
 use Rattle.plain_tables.specs.declared.errors.StoreError.{StoreError}
 use Rattle.plain_tables.specs.declared.errors.StoreError.TheVariants.{Store}
-use Rattle.row_writes.specs.Changes.{AreStorable}
-use Rattle.row_writes.specs.Places.{indexes_of}
+use Rattle.page_places.specs.Changes.{AreStorable}
+use Rattle.page_places.specs.Places.{indexes_of}
 use Rattle.run_lists.specs.Listed.{AreListed}
 use Rattle.run_lists.specs.declared.listed.RunLists.{RunLists}
 use Rattle.store_schema.specs.Schema.{schema_two, grp_at, member_at}

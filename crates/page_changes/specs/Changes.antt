@@ -9,14 +9,14 @@ use Rattle.sqlite_schema.specs.declared.schema.Table.{Table}
 use Rattle.sqlite_trees.specs.Tree.{Trees, without_rowid}
 use Rattle.sqlite_value.specs.declared.value.Value.TheVariants.{Int}
 use Rattle.sqlite_value.specs.Order.{Row}
-use Rattle.row_writes.specs.declared.places.Place.{Place}
-use Rattle.row_writes.specs.Changes.{AtTable, HasRows}
+use Rattle.page_places.specs.declared.places.Place.{Place}
+use Rattle.page_places.specs.Changes.{AtTable, HasRows}
 use Rattle.page_changes.specs.declared.finding.NamedRow.{NamedRow}
 use Rattle.page_changes.specs.Causes.{CanFollow}
 use Rattle.page_changes.specs.Named.{CanBeFound, IsFoundIn}
 use Rattle.page_places.specs.Failures.{FailsToStore}
 use Rattle.plain_tables.specs.declared.errors.StoreError.{StoreError}
-use Rattle.row_writes.specs.Places.{indexes_of}
+use Rattle.page_places.specs.Places.{indexes_of}
 use Rattle.page_files.specs.declared.files.PageFile.{PageFile}
 use Rattle.page_files.specs.Files.{IsFaithful}
 use Rattle.page_files.specs.Held.{Rests, Writes}

@@ -1,4 +1,5 @@
 pub mod Causes
 pub mod Changes
 pub mod Named
+pub mod Removed
 pub mod Shown

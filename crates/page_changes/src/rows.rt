@@ -13,9 +13,9 @@ ghost use Rattle.page_changes.specs.Named.{CanBeFound};
 
 use crate::finding::find_named;
 use page_files::PageFile;
-use page_places::{StoreRoots, error_of_row};
+use page_places::{IndexPlace, Place, StoreRoots, error_of_row, free_rowid};
 use plain_tables::StoreError;
-use row_writes::{IndexPlace, Place, RowTest, erase, erase_where, free_rowid, insert, replace};
+use row_writes::{RowTest, erase, erase_where, insert, replace};
 use sqlite_disk::Disk;
 use sqlite_record::fields::Fields;
 use sqlite_value::order::compare;

@@ -8,8 +8,8 @@ use Rattle.sqlite_value.specs.Order.{Row}
 use Rattle.line_fills.specs.Causes.{CanBeFilledIn}
 use Rattle.plain_tables.specs.Files.{all_named, numbers_in}
 use Rattle.plain_tables.specs.Tables.{Tables}
-use Rattle.prof_books.specs.Files.{call_rows, cell_rows, stack_rows}
-use Rattle.row_writes.specs.Places.{indexes_of}
+use Rattle.run_stores.specs.Files.{call_rows, cell_rows, stack_rows}
+use Rattle.page_places.specs.Places.{indexes_of}
 use Rattle.store_schema.specs.Schema.{schema_two, name_at, arc_at, stack_at, thread_cell_at}
 use Rattle.store_schema.specs.Tables.{cell_columns, arc_columns, stack_columns}
 use Rattle.page_imports.specs.Causes.{CanBePut, CanPutCalls, CanPutCells, CanPutRows, CanPutStacks}

@@ -2,7 +2,7 @@
 use Rattle.std.proofs.Common.{◌≡◌, ℕ, List, ap, ◌∙◌}
 use Rattle.cost_rows.specs.Content.{Content}
 use Rattle.plain_tables.specs.Tables.{EventRow, DerivedRow, CoefRow}
-use Rattle.prof_books.specs.Runs.{Filed}
+use Rattle.run_stores.specs.BookRuns.{Filed}
 
 abbrev pub made : ℕ → ℕ → ℕ → List ℕ → List ℕ → List EventRow → List DerivedRow → List CoefRow → Content → Filed
 made n k calls digest label events derived coefs content = record {

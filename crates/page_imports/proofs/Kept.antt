@@ -7,7 +7,7 @@ use Rattle.sqlite_schema.specs.declared.schema.Table.{Table}
 use Rattle.sqlite_trees.specs.Tree.{Trees}
 use Rattle.line_fills.specs.Filled.{trees_over}
 use Rattle.store_schema.specs.Schema.{schema_two}
-use Rattle.table_changes.specs.Changes.{OnlyChanges, SparesBut}
+use Rattle.page_places.specs.TableChanges.{OnlyChanges, SparesBut}
 use Rattle.page_imports.specs.Steps.{KeepsOthers}
 
 either_false : (a b : Bool) → (a || b) ≡ false → (a ≡ false) × (b ≡ false)

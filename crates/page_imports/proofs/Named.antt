@@ -13,8 +13,8 @@ use Rattle.plain_tables.proofs.Lists.{all-append}
 use Rattle.plain_tables.proofs.Numbering.{named_held, named_new, numbers_more, one_named}
 use Rattle.store_schema.specs.Schema.{schema_two, name_at}
 use Rattle.store_schema.specs.Tables.{Holds, name_columns}
-use Rattle.table_changes.specs.Fills.{Fills}
-use Rattle.table_changes.proofs.Fills as fills
+use Rattle.page_places.specs.Fills.{Fills}
+use Rattle.page_places.proofs.Fills as fills
 use Rattle.line_fills.specs.Filled.{IsTableFilled}
 use Rattle.line_fills.specs.Rows.{first_from, numbered, rows_behind}
 use Rattle.page_imports.specs.declared.numbering.Numbered.{Numbered}

@@ -22,11 +22,11 @@ use Rattle.page_places.specs.Names.{HasWideNumber}
 use Rattle.plain_tables.specs.Files.{all_named, numbers_in}
 use Rattle.plain_tables.specs.Tables.{Tables, RunRow, EventRow, DerivedRow, CoefRow}
 use Rattle.plain_tables.specs.declared.errors.StoreError.{StoreError}
-use Rattle.prof_books.specs.Files.{call_rows, cell_rows, stack_rows, with_head}
-use Rattle.prof_books.specs.Runs.{Filed, filed}
+use Rattle.run_stores.specs.Files.{call_rows, cell_rows, stack_rows, with_head}
+use Rattle.run_stores.specs.BookRuns.{Filed, filed}
 use Rattle.profile_records.specs.declared.kinds.Kind.{Kind}
-use Rattle.row_writes.specs.Changes.{AreStorable}
-use Rattle.row_writes.specs.Places.{indexes_of}
+use Rattle.page_places.specs.Changes.{AreStorable}
+use Rattle.page_places.specs.Places.{indexes_of}
 use Rattle.run_lines.specs.Fits.{HeadFits, StacksFit}
 use Rattle.run_lists.specs.Listed.{AreListed}
 use Rattle.run_lists.specs.declared.listed.RunLists.{RunLists}

@@ -5,7 +5,7 @@ use Rattle.cost_rows.specs.declared.numbered.CellSum.{CellSum}
 use Rattle.cost_rows.specs.declared.places.Call.{Call}
 use Rattle.cost_rows.specs.declared.places.CellPlace.{CellPlace}
 use Rattle.plain_tables.specs.Tables.{StoredCall, StoredCell}
-use Rattle.prof_books.specs.Files.{call_row_of, call_rows_at, cell_row_of, cell_rows_at}
+use Rattle.run_stores.specs.Files.{call_row_of, call_rows_at, cell_row_of, cell_rows_at}
 use Rattle.page_imports.specs.declared.row_lines.CallLine.{CallLine}
 use Rattle.page_imports.specs.declared.row_lines.CellLine.{CellLine}
 use Rattle.page_imports.specs.declared.run_names.RunNames.{RunNames}

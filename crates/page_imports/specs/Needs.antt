@@ -4,11 +4,11 @@ use Rattle.std.specs.List.{AllByRecursion, list_any}
 use Rattle.plain_tables.specs.Changes.{has_run}
 use Rattle.plain_tables.specs.Lists.{Has}
 use Rattle.plain_tables.specs.Tables.{Tables, RunRow as Run, StoredCell, StoredCall, StoredStack}
-use Rattle.prof_books.specs.Book.{AreOf}
+use Rattle.run_stores.specs.Book.{AreOf}
 use Rattle.store_schema.specs.Lines.{coef_row, derived_row, event_row}
 use Rattle.store_schema.specs.declared.table_rows.HeadRows.{HeadRows}
 use Rattle.store_schema.specs.declared.table_rows.RunRow.{RunRow}
-use Rattle.table_changes.specs.Keys.{AreOfNewRun}
+use Rattle.page_places.specs.Keys.{AreOfNewRun}
 use Rattle.page_imports.specs.Imports.{IsNew}
 
 -- each run has a lower number, and none the digest; the next number is higher

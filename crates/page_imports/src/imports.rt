@@ -7,7 +7,7 @@ ghost use Rattle.cost_rows.specs.Rows.{content_of};
 ghost use Rattle.cost_rows.specs.Totals.{count_total};
 ghost use Rattle.page_files.specs.Files.{IsUsable};
 ghost use Rattle.plain_tables.specs.Tables.{Tables};
-ghost use Rattle.prof_books.specs.Heads.{IsComplete};
+ghost use Rattle.run_stores.specs.Heads.{IsComplete};
 ghost use Rattle.run_lines.specs.Runs.{with_run_of};
 ghost use Rattle.run_lines.specs.Sums.{AllFit};
 ghost use Rattle.run_lists.specs.Listed.{AreListed};

@@ -15,9 +15,8 @@ use crate::numbering::{NewName, Numbered};
 use cost_rows::Names;
 use line_fills::fill;
 use page_files::PageFile;
-use page_places::{StoreRoots, error_of, error_of_row, find_name};
+use page_places::{IndexPlace, Place, StoreRoots, error_of, error_of_row, find_name, free_rowid};
 use plain_tables::StoreError;
-use row_writes::{IndexPlace, Place, free_rowid};
 use sqlite_disk::Disk;
 use std::alloc::Global;
 

@@ -4,7 +4,7 @@ use Rattle.std.specs.List.{list_any}
 use Rattle.cg_formulas.specs.declared.heads.FileHead.{FileHead}
 use Rattle.plain_tables.specs.Changes.{has_run}
 use Rattle.plain_tables.specs.Tables.{Tables, RunRow, EventRow, DerivedRow, CoefRow}
-use Rattle.prof_books.specs.HeldHeads.{IsHeadIn, coef_of_line, event_of_line, name_of_line}
+use Rattle.run_stores.specs.HeldHeads.{IsHeadIn, coef_of_line, event_of_line, name_of_line}
 use Rattle.held_lines.specs.HeadLines.{IsReadFrom, derived_place, entry_of_coef, entry_of_event}
 use Rattle.held_lines.specs.declared.head_lines.HeadEvent.{HeadEvent}
 use Rattle.held_lines.specs.declared.head_lines.HeadDerived.{HeadDerived}

@@ -9,7 +9,7 @@ use Rattle.sqlite_value.specs.declared.value.Value.TheVariants.{Int}
 use Rattle.sqlite_value.specs.Order.{Row, column, value_cmp}
 use Rattle.sqlite_trees.specs.Tree.{rowid}
 use Rattle.page_rows.specs.Rows.{from_rowid}
-use Rattle.run_order.specs.Order.{ByRun}
+use Rattle.run_stores.specs.Order.{ByRun}
 use Rattle.page_lists.specs.Walks.{AllEarlier, AreOfRun, InOrder, IsFirstOf, is_of, natural, run_in}
 
 -- ---- lists

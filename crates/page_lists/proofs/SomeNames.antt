@@ -10,7 +10,7 @@ use Rattle.sqlite_value.specs.Order.{Row}
 use Rattle.sqlite_trees.specs.Tree.{IsAscending}
 use Rattle.plain_tables.specs.Tables.{NameRow}
 use Rattle.store_schema.specs.Tables.{name_columns, number}
-use Rattle.prof_books.specs.Book.{name_of, IsHeld}
+use Rattle.run_stores.specs.Book.{name_of, IsHeld}
 use Rattle.run_stores.specs.Names.{AreAmong}
 use Rattle.page_lists.specs.Among.{Rise, id_of, is_among}
 use Rattle.page_lists.proofs.RunRows.{map_injective}

@@ -7,7 +7,7 @@ use Rattle.sqlite_value.specs.Order.{Row}
 use Rattle.page_files.specs.declared.files.PageFile.{PageFile}
 use Rattle.page_files.specs.Trees.{ShowsTable, trees_of}
 use Rattle.store_schema.specs.Schema.{meta_at, run_at, run_event_at, derived_at, coef_at, name_at, arc_at, stack_at, grp_at, member_at, thread_cell_at}
-use Rattle.run_order.specs.Order.{ByRun}
+use Rattle.run_stores.specs.Order.{ByRun}
 use Rattle.page_places.specs.declared.roots.StoreRoots.{StoreRoots}
 
 module _ {D : Type 0} {g : Ghosts D} where

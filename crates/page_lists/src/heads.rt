@@ -2,7 +2,7 @@
 ghost use Rattle.std.specs.Prelude.{◌≡◌, ◌==◌, map, filter, option_map, string_bytes, IfOk, IsPermutation};
 ghost use Rattle.std.specs.List.{list_any};
 ghost use Rattle.plain_tables.specs.Tables.{Tables, EventRow, DerivedRow, CoefRow};
-ghost use Rattle.prof_books.specs.HeldHeads.{IsHeadIn, coef_of_line, event_of_line, name_of_line};
+ghost use Rattle.run_stores.specs.HeldHeads.{IsHeadIn, coef_of_line, event_of_line, name_of_line};
 ghost use Rattle.held_lines.specs.HeadLines.{derived_place, entry_of_coef, entry_of_event};
 ghost use Rattle.run_lists.specs.Listed.{AreListed, coef_row, derived_row, event_row};
 

@@ -3,13 +3,11 @@
 ghost use Rattle.std.specs.Prelude.{true, false, IfOk, IfSome};
 ghost use Rattle.sqlite_wal.specs.Files.{image_at};
 ghost use Rattle.sqlite_wal.specs.Recovery.{Image};
-ghost use Rattle.read_only_disks.specs.Untouched.{IsUntouched};
+ghost use Rattle.file_disks.specs.Untouched.{IsUntouched};
 ghost use Rattle.store_openers.specs.Opened.{ShowImage};
 
-use either_disks::{EitherDisk, as_one, as_other};
-use files_to_read::{FileOf, Standing, Unopened, open_to_look, open_to_read};
+use file_disks::{EitherDisk, FileOf, ReadOnly, Standing, Unopened, as_one, as_other, open_to_look, open_to_read, read_only};
 use prof_store::OpenError;
-use read_only_disks::{ReadOnly, read_only};
 use sqlite_disk::{Disk, Files as DiskFiles, Start};
 use sqlite_std_file::FileFrom;
 use std::alloc::Global;

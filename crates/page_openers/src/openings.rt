@@ -4,7 +4,7 @@ ghost use Rattle.store_openers.specs.Opened.{IsStoreOf};
 
 use crate::files::FileOpener;
 use crate::refusing::{PAGES_TO_READ, unread};
-use files_to_read::Standing;
+use file_disks::Standing;
 use page_runs::PageRuns;
 use std::marker::PhantomData;
 use std::rt::HostRuntime;

@@ -2,7 +2,7 @@
 ghost use Rattle.std.specs.Prelude.{IsTrue};
 
 use crate::files::FileOpener;
-use files_to_read::Standing;
+use file_disks::Standing;
 use plain_tables::StoreError;
 use prof_store::OpenError;
 use sqlite_disk::{Disk, Files};

@@ -12,9 +12,9 @@ use Rattle.page_files.specs.Writes.{FailsToWrite}
 use Rattle.page_files.proofs.Causes.{fails_later, fails_to_read}
 use Rattle.plain_tables.specs.declared.errors.StoreError.{StoreError}
 use Rattle.plain_tables.specs.declared.errors.StoreError.TheVariants.{Memory}
-use Rattle.row_writes.specs.Causes.{FailsToChange}
-use Rattle.row_writes.specs.declared.errors.RowError.{RowError}
-use Rattle.row_writes.specs.declared.errors.RowError.TheVariants.{Pages, Unstorable, NoRowid}
+use Rattle.page_places.specs.Causes.{FailsToChange}
+use Rattle.page_places.specs.declared.errors.RowError.{RowError}
+use Rattle.page_places.specs.declared.errors.RowError.TheVariants.{Pages, Unstorable, NoRowid}
 use Rattle.page_places.specs.Failures.{FailsToStore, IsFailureOf, failure_of, failure_of_row}
 
 module _ {D : Type 0} {g : Ghosts D} (old new : PageFile D g) where

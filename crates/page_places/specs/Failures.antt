@@ -7,8 +7,8 @@ use Rattle.plain_tables.specs.declared.errors.StoreError.{StoreError}
 use Rattle.plain_tables.specs.declared.errors.StoreError.TheVariants.{Memory, Store}
 use Rattle.page_rows.specs.declared.errors.WalkError.{WalkError}
 use Rattle.page_rows.specs.declared.errors.WalkError.TheVariants.{Pages, Refused}
-use Rattle.row_writes.specs.declared.errors.RowError.{RowError}
-use Rattle.row_writes.specs.declared.errors.RowError.TheVariants as rows
+use Rattle.page_places.specs.declared.errors.RowError.{RowError}
+use Rattle.page_places.specs.declared.errors.RowError.TheVariants as rows
 use Rattle.sqlite_pages.specs.declared.error.Error.{Error}
 use Rattle.sqlite_pages.specs.declared.error.Error.TheVariants.{OutOfMemory}
 

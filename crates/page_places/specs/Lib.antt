@@ -1,5 +1,14 @@
+pub mod Causes
+pub mod Changes
+pub mod Entries
 pub mod Failures
+pub mod Fills
+pub mod Keys
 pub mod Names
 pub mod Placed
+pub mod Places
 pub mod Roots
 pub mod Stores
+pub mod TableChanges
+pub mod Thinned
+pub mod Unused

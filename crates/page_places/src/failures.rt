@@ -4,7 +4,7 @@ ghost use Rattle.page_places.specs.Failures.{end_of_walk, failure_of, failure_of
 
 use page_rows::WalkError;
 use plain_tables::StoreError;
-use row_writes::RowError;
+use crate::errors::RowError;
 use sqlite_pages::Error;
 
 /// What an error of the pages is for a caller.

@@ -16,7 +16,7 @@ use Rattle.page_files.proofs.Steps.{stands_on, stands_on_along}
 use Rattle.plain_tables.specs.Tables.{Tables}
 use Rattle.plain_tables.specs.declared.errors.StoreError.{StoreError}
 use Rattle.plain_tables.specs.Sound.{AreSound}
-use Rattle.run_order.specs.Order.{AreInOrder}
+use Rattle.run_stores.specs.Order.{AreInOrder}
 use Rattle.run_stores.specs.Calls as calls
 use Rattle.run_stores.specs.Calls.{Are, Become, Changed, Given}
 use Rattle.store_schema.specs.Schema.{schema_two}

@@ -6,7 +6,7 @@ use Rattle.std.proofs.lemmas.Bool.Decides.{nat_tests}
 use Rattle.std.proofs.lemmas.Slice.Eq.{bytes_eq-Decides}
 use Rattle.plain_tables.specs.Files.{number_in}
 use Rattle.plain_tables.specs.Tables.{Tables, NameRow}
-use Rattle.prof_books.specs.Book.{no_name, IsHeld}
+use Rattle.run_stores.specs.Book.{no_name, IsHeld}
 use Rattle.run_stores.specs.Names.{IsNumberOf}
 use Rattle.sqlite_trees.specs.Tree.{IsAscending}
 use Rattle.store_schema.specs.Names.{number_if_held}

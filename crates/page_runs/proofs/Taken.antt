@@ -10,7 +10,7 @@ use Rattle.store_schema.specs.Tables.{Holds, contents_of, name_columns, cell_col
 use Rattle.run_lists.specs.Listed.{AreListed}
 use Rattle.page_files.specs.Files.{IsUsable}
 use Rattle.page_files.specs.Held.{Rests}
-use Rattle.run_order.specs.Order.{AreInOrder}
+use Rattle.run_stores.specs.Order.{AreInOrder}
 use Rattle.page_places.specs.Roots.{AreRoots}
 use Rattle.page_places.proofs.Stores.{shows_resting}
 use Rattle.page_runs.specs.Kept.{AreKept}

@@ -13,7 +13,7 @@ use Rattle.page_files.specs.Writes.{CommitsAtMost, Forgets}
 use Rattle.plain_tables.specs.Tables.{Tables}
 use Rattle.plain_tables.specs.declared.errors.StoreError.{StoreError}
 use Rattle.run_lists.specs.declared.listed.RunLists.{RunLists}
-use Rattle.run_order.specs.Order.{AreInOrder}
+use Rattle.run_stores.specs.Order.{AreInOrder}
 use Rattle.store_schema.specs.Tables.{Holds}
 use Rattle.page_places.specs.Roots.{AreRoots}
 use Rattle.page_runs.specs.Kept.{IsForgotten}

@@ -16,7 +16,7 @@ use Rattle.page_files.specs.Files.{page_size, pages_of}
 use Rattle.page_files.specs.Held.{Rests}
 use Rattle.plain_tables.specs.Tables.{Tables}
 use Rattle.run_lists.specs.Listed.{AreListed}
-use Rattle.run_order.specs.Order.{AreInOrder}
+use Rattle.run_stores.specs.Order.{AreInOrder}
 use Rattle.store_schema.specs.Schema.{schema_two}
 use Rattle.store_schema.specs.Tables.{Holds}
 use Rattle.store_schema.proofs.Sound.{sound_of}

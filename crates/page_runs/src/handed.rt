@@ -4,7 +4,7 @@ ghost use Rattle.sqlite_record.specs.Fields.{fields_left};
 ghost use Rattle.page_files.specs.Files.{IsFaithful, OnlyReads};
 ghost use Rattle.plain_tables.specs.RunRows.{cells_in, calls_in, stacks_in};
 ghost use Rattle.plain_tables.specs.Tables.{Tables, StoredCell as Cell, StoredCall as Call, StoredStack as Stack};
-ghost use Rattle.prof_books.specs.Book.{stacks_held};
+ghost use Rattle.run_stores.specs.Book.{stacks_held};
 ghost use Rattle.run_stores.specs.Walks.{CallsFoldTo, CellsFoldTo, cell_numbers};
 ghost use Rattle.store_schema.specs.Lines.{call_row, cell_row, held_stack};
 ghost use Rattle.store_schema.specs.Tables.{number, cell_columns, arc_columns, stack_columns};

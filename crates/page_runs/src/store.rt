@@ -438,7 +438,7 @@ impl<D: Disk> RunStore for PageRuns<D> {
     }
 
     fn drop_run(&mut self, run: u32) -> Result<(), StoreError> {
-        let written = page_removals::drop_run(&mut self.file, self.alloc, &self.lists, run);
+        let written = page_changes::drop_run(&mut self.file, self.alloc, &self.lists, run);
         self.finish(written)
     }
 

@@ -1,6 +1,14 @@
 //! The library in one crate, for who reads profiles, adds up their rows, prints reports, or keeps them in a store. Each item
-//! stands in the crate that is named here, with its contract.
+//! stands in the crate that is named here, with its contract. Reports of rows in any order stand here: rows of one key are added up,
+//! and each call asks that costs and counts add up to less than 2^112.
 #![tactic(auto)]
+
+// Callers and callees (report_texts/specs/Calls.antt).
+mod calls;
+// What functions cost with all that they call (report_texts/specs/Inclusive.antt).
+mod inclusives;
+// Reports by key, and differences (report_texts/specs/{KeyReports, Differences}.antt).
+mod keys;
 
 // Lines, fields and numbers of Callgrind files; derived events.
 pub use cg_formulas::{
@@ -20,13 +28,15 @@ pub use cost_rows::{
     ArcRow, CellRow, FileRows, FileTotals, Key, Merged, Names, Overflow, Side, StackRow, admit,
 };
 
-// Reports and exports of rows.
+// Reports and exports of rows; of rows in any order, where rows of one key are added up.
+pub use calls::{callees, callers};
 pub use cost_exports::{CellSums, LineSums, StackSums, annotate, csv_text, folded_text};
 pub use cost_reports::{
     CallReport, CallRow, Check, Cut, Difference, DifferenceRow, InclusiveReport, LentPlace, Pair,
     Report, Row, Signed, Verification, verify,
 };
-pub use row_reports::{by, callees, callers, inclusive, subtract};
+pub use inclusives::inclusive;
+pub use keys::{by, subtract};
 
 // A store in SQLite, and its rows.
 pub use held_runs::{CallSink, CellSink, StackRowSink, each_call, each_cell, each_stack, head_of};
@@ -41,8 +51,8 @@ pub use warehouse::{
 };
 
 // Over HTTP, and what the program prints.
-pub use answer_lines::{line_of, status_of};
+pub use warehouse::{line_of, status_of};
 pub use command_line::{Plan, PlanEnd, plan};
 pub use file_reading::{Total, TotalText, total_file, total_text};
-pub use http_service::serve_on;
+pub use prof_http::serve_on;
 pub use prof_http::{Exchange, Room, Stream, StreamFault, answer, routes};

@@ -26,7 +26,7 @@ use Rattle.store_schema.specs.Tables.{Holds, run_columns, number}
 use Rattle.plain_tables.specs.Changes.{named, has_name, with_new_name}
 use Rattle.plain_tables.specs.Files.{all_named}
 use Rattle.store_schema.proofs.Values.{blobs_equal}
-use Rattle.prof_books.specs.Runs.{with_file, run_row_of}
+use Rattle.run_stores.specs.BookRuns.{with_file, run_row_of}
 use Rattle.profile_records.specs.declared.kinds.Kind.{Kind}
 
 -- SQL's <> on two numbers

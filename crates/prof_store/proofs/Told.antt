@@ -22,7 +22,7 @@ use Rattle.store_schema.specs.Schema.{schema_two, meta_at, run_at, run_event_at,
 use Rattle.store_schema.specs.Seen.{is_at, run_seen, group_seen, member_seen, is_member_row}
 use Rattle.plain_tables.specs.Tables.{Tables, RunRow, EventRow, GroupRow, MemberRow}
 use Rattle.store_schema.specs.Tables.{Holds, meta_columns, run_columns, event_columns, derived_columns, coef_columns, name_columns, cell_columns, arc_columns, stack_columns, group_columns, member_columns, number, number_or_null, text_or_null}
-use Rattle.prof_books.specs.Totals.{held_self, held_calls, held_count}
+use Rattle.run_stores.specs.Totals.{held_self, held_calls, held_count}
 use Rattle.prof_store.specs.Digests.{IsRowOf}
 use Rattle.run_stores.specs.Lookups.{IsRunOf}
 use Rattle.prof_store.specs.Groups.{AreGroupsIn, AreMembersIn}

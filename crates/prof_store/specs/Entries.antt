@@ -3,7 +3,7 @@ use Rattle.std.specs.Prelude.{[], ◌∷◌}
 use Rattle.sqlite_value.specs.declared.value.Value.TheVariants.{Text, Blob}
 use Rattle.sqlite_value.specs.Order.{Row, column}
 use Rattle.store_schema.specs.Tables.{number}
-use Rattle.prof_books.specs.Entries.{HeldRun}
+use Rattle.run_stores.specs.BookEntries.{HeldRun}
 use Rattle.run_stores.specs.Entries.{entry_run}
 use Rattle.run_stores.specs.declared.entries.RunEntry.{RunEntry}
 

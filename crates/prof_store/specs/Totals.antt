@@ -8,7 +8,7 @@ use Rattle.cost_rows.specs.declared.rows.FileTotals.{FileTotals}
 use Rattle.store_schema.specs.Seen.{is_at}
 use Rattle.plain_tables.specs.Tables.{Tables}
 use Rattle.store_schema.specs.Tables.{number}
-use Rattle.prof_books.specs.Totals.{held_self, held_calls}
+use Rattle.run_stores.specs.Totals.{held_self, held_calls}
 use Rattle.prof_store.specs.declared.totals.EventSums.{EventSums}
 
 -- the number that a value is, and 0 where it is none

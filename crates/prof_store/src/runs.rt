@@ -5,7 +5,7 @@ ghost use Rattle.std.specs.Result.{is_ok};
 ghost use Rattle.store_schema.specs.Seen.{run_seen};
 ghost use Rattle.prof_store.specs.Entries.{entry_columns, first_four};
 ghost use Rattle.run_stores.specs.Entries.{entry_run};
-ghost use Rattle.prof_books.specs.Entries.{held_run};
+ghost use Rattle.run_stores.specs.BookEntries.{held_run};
 ghost use Rattle.prof_store.specs.Shown.{Asks, Found, Told};
 
 use crate::statements::select;

@@ -3,7 +3,7 @@ ghost use Rattle.std.specs.Prelude.{◌&&◌, ◌≡◌, ◌<◌, ◌^◌, [], m
 ghost use Rattle.std.specs.Result.{is_ok};
 ghost use Rattle.prof_store.specs.Shown.{Asks, Found, Told, shown};
 ghost use Rattle.prof_store.specs.Totals.{AreSums, AreSumsIn, IsSum, IsSumAt, IsSumIn, IsHeldAt, IsBounded};
-ghost use Rattle.prof_books.specs.Totals.{held_count, IsHeldIn};
+ghost use Rattle.run_stores.specs.Totals.{held_count, IsHeldIn};
 
 use crate::statements::select;
 use crate::store::Store;

@@ -10,7 +10,7 @@ use Rattle.page_runs.specs.States.{state_of}
 use Rattle.page_runs.specs.declared.store.PageRuns.{PageRuns}
 use Rattle.histories.specs.History.{History}
 use Rattle.histories.specs.declared.limits.Limits.{Limits}
-use Rattle.store_histories.specs.Answered.{HasHistory}
+use Rattle.histories.specs.Answered.{HasHistory}
 use Rattle.warehouse.specs.Taken.{CameTo}
 use Rattle.warehouse.proofs.Taken.{taken_clean}
 use Rattle.store_openers.specs.Opened.{IsStoreOf}

@@ -9,7 +9,7 @@ use Rattle.program_stores.specs.declared.jobs.Job.TheVariants as jobs
 use Rattle.requests.specs.Plain.{only_reads}
 use Rattle.sessions.specs.Sessions.{Wants}
 use Rattle.sessions.specs.Works.{WerePrinted}
-use Rattle.http_service.specs.Served.{AreOfRequests}
+use Rattle.prof_http.specs.Served.{AreOfRequests}
 
 -- cells of small runs that are kept in memory: a server is asked again and again
 abbrev pub cells_to_keep : Job → ℕ

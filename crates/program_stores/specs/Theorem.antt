@@ -10,7 +10,7 @@ use Rattle.histories.specs.History.{History}
 use Rattle.histories.specs.Legal.{AreLegal}
 use Rattle.histories.specs.Standard.{IsStandard}
 use Rattle.histories.specs.declared.limits.Limits.{Limits}
-use Rattle.store_histories.specs.Answered.{HasHistory}
+use Rattle.histories.specs.Answered.{HasHistory}
 use Rattle.program_stores.specs.declared.jobs.Done.{Done}
 use Rattle.program_stores.specs.declared.jobs.Job.{Job}
 use Rattle.program_stores.specs.Jobs.{Tells}

@@ -6,7 +6,7 @@ ghost use Rattle.program_stores.specs.Theorem.{WasDone};
 
 use crate::jobs::{Done, Job, Outputs, done_over};
 use crate::telling::tell_remarks;
-use files_to_read::{IfStands, Standing};
+use file_disks::{IfStands, Standing};
 use page_runs::PageRuns;
 use requests::Command;
 use sessions::WordsCommand;

@@ -10,7 +10,7 @@ ghost use Rattle.program_stores.specs.Theorem.{WasDone};
 ghost use Rattle.requests.specs.Plain.{only_reads};
 ghost use Rattle.warehouse.specs.Taken.{CameTo};
 
-use http_service::{Service, serve_over};
+use prof_http::{Service, serve_over};
 use page_runs::PageRuns;
 use run_stores::RunStore;
 use sessions::{Remark, WordsCommand, work_over};

@@ -1,7 +1,7 @@
 // What a person is told on a terminal, beside what is printed.
 
 use byte_io::push_escaped;
-use seen_files::finding_line;
+use file_reading::finding_line;
 use sessions::Remark;
 use std::io::IsTerminal;
 use std::rt::HostRuntime;

@@ -19,9 +19,9 @@ use Rattle.sqlite_value.specs.Order.{Row}
 use Rattle.sql_tables.proofs.Rows.{Numbered, id_is, left_by_picks}
 use Rattle.page_files.specs.declared.files.PageFile.{PageFile}
 use Rattle.page_files.specs.Files.{IsFaithful, IsUsable}
-use Rattle.table_changes.specs.Changes.{OnlyChanges}
-use Rattle.row_writes.specs.declared.places.Place.{Place}
-use Rattle.row_writes.specs.Changes.{HasRows, Shows}
+use Rattle.page_places.specs.TableChanges.{OnlyChanges}
+use Rattle.page_places.specs.declared.places.Place.{Place}
+use Rattle.page_places.specs.Changes.{HasRows, Shows}
 use Rattle.row_writes.specs.Tests.{rowids_of, rows_left}
 
 one_more_out : (rows : List Row) (ids : List ℤ) (id : ℤ) → without_all rows (ids ++ id ∷ []) ≡ without_rowid id (without_all rows ids)

@@ -35,17 +35,17 @@ use Rattle.sqlite_pool.specs.Stored.{Keeps}
 use Rattle.std.specs.Prelude.{IsTrue, ⊤}
 use Rattle.page_rows.specs.Indexes.{begins_with, from_entry}
 use Rattle.page_rows.proofs.Prefixes.{those_that_begin}
-use Rattle.row_writes.specs.declared.places.IndexPlace.{IndexPlace}
-use Rattle.row_writes.specs.declared.places.Place.{Place}
-use Rattle.row_writes.specs.declared.errors.RowError.{RowError}
-use Rattle.row_writes.specs.declared.errors.RowError.TheVariants.{Pages, Unstorable, NoRowid}
-use Rattle.row_writes.specs.Causes.{FailsToChange, FailsToFind}
-use Rattle.row_writes.specs.Changes.{HasRows, Shows}
-use Rattle.row_writes.specs.Entries.{with_entries}
-use Rattle.row_writes.specs.Places.{AreIndexPlaces, indexes_of, IsIndexPlace}
+use Rattle.page_places.specs.declared.places.IndexPlace.{IndexPlace}
+use Rattle.page_places.specs.declared.places.Place.{Place}
+use Rattle.page_places.specs.declared.errors.RowError.{RowError}
+use Rattle.page_places.specs.declared.errors.RowError.TheVariants.{Pages, Unstorable, NoRowid}
+use Rattle.page_places.specs.Causes.{FailsToChange, FailsToFind}
+use Rattle.page_places.specs.Changes.{HasRows, Shows}
+use Rattle.page_places.specs.Entries.{with_entries}
+use Rattle.page_places.specs.Places.{AreIndexPlaces, indexes_of, IsIndexPlace}
 use Rattle.row_writes.specs.Tests.{rows_left}
 use Rattle.row_writes.specs.Under.{AreLed, entry_id, ids_under, is_under, IsLed, out_under}
-use Rattle.row_writes.proofs.Changed.{elsewhere, entry_changed, only_own, places_low, rows_changed, table_shaped}
+use Rattle.page_places.proofs.Changed.{elsewhere, entry_changed, only_own, places_low, rows_changed, table_shaped}
 
 -- ---- the walk
 

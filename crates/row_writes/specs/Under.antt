@@ -15,9 +15,9 @@ use Rattle.page_files.specs.declared.files.PageFile.{PageFile}
 use Rattle.page_files.specs.Files.{IsFaithful}
 use Rattle.page_files.specs.Trees.{ShowsIndex, trees_of}
 use Rattle.page_rows.specs.Indexes.{begins_with}
-use Rattle.row_writes.specs.declared.errors.RowError.{RowError}
-use Rattle.row_writes.specs.Causes.{FailsToFind}
-use Rattle.row_writes.specs.Entries.{EntryEdit}
+use Rattle.page_places.specs.declared.errors.RowError.{RowError}
+use Rattle.page_places.specs.Causes.{FailsToFind}
+use Rattle.page_places.specs.Entries.{EntryEdit}
 
 -- whether the first column of a row is this number
 abbrev pub is_under : ℤ → Row → Bool

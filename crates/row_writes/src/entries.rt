@@ -4,11 +4,10 @@ ghost use Rattle.sqlite_pool.specs.Pool as pools;
 ghost use Rattle.sqlite_pool.specs.Stored.{Keeps};
 ghost use Rattle.sqlite_trees.specs.Tree.{insert_entry, remove_entry};
 ghost use Rattle.page_files.specs.Files.{IsUsable};
-ghost use Rattle.row_writes.specs.Changes.{AreStorable};
-ghost use Rattle.row_writes.specs.Entries.{EditsEntries};
+ghost use Rattle.page_places.specs.Changes.{AreStorable};
+ghost use Rattle.page_places.specs.Entries.{EditsEntries};
 
-use crate::errors::RowError;
-use crate::places::IndexPlace;
+use page_places::{IndexPlace, RowError};
 use crate::records::{make_entry, write_record};
 use page_files::PageFile;
 use sqlite_disk::Disk;

@@ -4,12 +4,11 @@ ghost use Rattle.sqlite_pool.specs.Pool as pools;
 ghost use Rattle.sqlite_pool.specs.Stored.{Keeps};
 ghost use Rattle.sqlite_rules.specs.Edit.{without_all};
 ghost use Rattle.page_files.specs.Files.{IsUsable, OnlyReads};
-ghost use Rattle.row_writes.specs.Causes.{FailsToChange};
-ghost use Rattle.row_writes.specs.Changes.{Anything, AtRows, EditsRows};
+ghost use Rattle.page_places.specs.Causes.{FailsToChange};
+ghost use Rattle.page_places.specs.Changes.{Anything, AtRows, EditsRows};
 ghost use Rattle.row_writes.specs.Tests.{rowids_of, rows_left};
 
-use crate::errors::RowError;
-use crate::places::Place;
+use page_places::{Place, RowError};
 use crate::rows::erase;
 use page_files::PageFile;
 use page_rows::{RowSink, WalkError};

@@ -5,9 +5,9 @@ ghost use Rattle.sqlite_record.specs.Record.{decode};
 ghost use Rattle.sqlite_record.specs.Strict.{IsRecord};
 ghost use Rattle.sqlite_sql.specs.Catalog.{entry_of};
 ghost use Rattle.sqlite_trees.specs.View.{IsStorable};
-ghost use Rattle.row_writes.specs.Causes.{IsRefused};
+ghost use Rattle.page_places.specs.Causes.{IsRefused};
 
-use crate::errors::RowError;
+use page_places::RowError;
 use sqlite_pages::Error;
 use sqlite_record::encode::encode;
 use sqlite_trees::error::StoreError;

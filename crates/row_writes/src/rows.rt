@@ -6,11 +6,10 @@ ghost use Rattle.sqlite_trees.specs.Tree.{put_row, without_rowid};
 ghost use Rattle.sqlite_trees.specs.View.{IsStorableRow};
 ghost use Rattle.sqlite_value.specs.declared.value.Value.TheVariants.{Int};
 ghost use Rattle.page_files.specs.Files.{IsUsable};
-ghost use Rattle.row_writes.specs.Changes.{Anything, AreBelow, AreStorable, EditsRows, KeepsEntries};
+ghost use Rattle.page_places.specs.Changes.{Anything, AreBelow, AreStorable, EditsRows, KeepsEntries};
 
 use crate::entries::{insert_entries, remove_entries};
-use crate::errors::RowError;
-use crate::places::Place;
+use page_places::{Place, RowError};
 use crate::records::{with_rowid, write_record};
 use page_files::PageFile;
 use page_rows::read_row;

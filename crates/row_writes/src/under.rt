@@ -6,13 +6,12 @@ ghost use Rattle.sqlite_record.specs.Record.{decode};
 ghost use Rattle.sqlite_rules.specs.Edit.{id_in};
 ghost use Rattle.sqlite_value.specs.Value.{owned};
 ghost use Rattle.page_files.specs.Files.{IsUsable, OnlyReads};
-ghost use Rattle.row_writes.specs.Changes.{EditsRows};
-ghost use Rattle.row_writes.specs.Entries.{EditsEntries};
+ghost use Rattle.page_places.specs.Changes.{EditsRows};
+ghost use Rattle.page_places.specs.Entries.{EditsEntries};
 ghost use Rattle.row_writes.specs.Tests.{rows_left};
 ghost use Rattle.row_writes.specs.Under.{AreLed, entry_id, FindsUnder, is_under, out_under};
 
-use crate::errors::RowError;
-use crate::places::{IndexPlace, Place};
+use page_places::{IndexPlace, Place, RowError};
 use page_files::PageFile;
 use page_rows::{EntrySink, WalkError};
 use sqlite_disk::Disk;

@@ -5,11 +5,11 @@ use Rattle.cost_rows.specs.Rows.{content_of}
 use Rattle.cost_rows.specs.Totals.{count_total}
 use Rattle.cost_rows.specs.declared.file_rows.FileRows.{FileRows}
 use Rattle.plain_tables.specs.Tables.{Tables, EventRow, DerivedRow, CoefRow}
-use Rattle.prof_books.specs.Files.{with_rows, with_head}
-use Rattle.prof_books.specs.Heads.{event_rows, derived_rows, coef_rows}
+use Rattle.run_stores.specs.Files.{with_rows, with_head}
+use Rattle.run_stores.specs.Heads.{event_rows, derived_rows, coef_rows}
 use Rattle.profile_records.specs.Kinds.{kind_number}
 use Rattle.store_schema.specs.Lines.{event_row, derived_row, coef_row}
-use Rattle.prof_books.specs.Runs.{with_file, run_row_of}
+use Rattle.run_stores.specs.BookRuns.{with_file, run_row_of}
 use Rattle.profile_records.specs.declared.kinds.Kind.{Kind}
 use Rattle.store_schema.specs.declared.table_rows.HeadRows.{HeadRows}
 

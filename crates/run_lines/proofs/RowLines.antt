@@ -15,7 +15,7 @@ use Rattle.cost_rows.specs.Walks.{counted_stacks}
 use Rattle.std.proofs.lemmas.List.{map-append}
 use Rattle.cost_rows.proofs.AboveLemmas.{above-more}
 use Rattle.plain_tables.specs.Tables.{StoredCall, StoredStack}
-use Rattle.prof_books.specs.Files.{cell_row_of, cell_rows_at, cell_rows, call_row_of, call_rows_from, call_rows_at, call_rows, stack_rows}
+use Rattle.run_stores.specs.Files.{cell_row_of, cell_rows_at, cell_rows, call_row_of, call_rows_from, call_rows_at, call_rows, stack_rows}
 use Rattle.run_lines.specs.FromRows.{line_of_cell, line_of_stack, row_lines}
 
 cells_at : (run : ℕ) (numbers : List ℕ) (p : CellPlace) (event : ℕ) (costs : List ℕ) → map (line_of_cell run numbers) (numbered_at p event costs) ≡ cell_rows_at run numbers p event costs

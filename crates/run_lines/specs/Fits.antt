@@ -8,7 +8,7 @@ use Rattle.cost_rows.specs.declared.rows.StackRow.{StackRow}
 use Rattle.cost_rows.specs.Walks.{counted_stacks}
 use Rattle.plain_tables.specs.declared.errors.StoreError.{StoreError}
 use Rattle.plain_tables.specs.declared.errors.StoreError.TheVariants.{Memory, Store}
-use Rattle.prof_books.specs.Heads.{IsComplete}
+use Rattle.run_stores.specs.Heads.{IsComplete}
 use Rattle.run_lines.specs.Sums.{AllFit}
 
 -- the names of a cell have numbers, and its own numbers fit their columns

@@ -8,7 +8,7 @@ use Rattle.cost_rows.specs.declared.rows.CellRow.{CellRow}
 use Rattle.cost_rows.specs.declared.rows.ArcRow.{ArcRow}
 use Rattle.cost_rows.specs.declared.rows.StackRow.{StackRow}
 use Rattle.plain_tables.specs.Tables.{StoredCell, StoredCall, StoredStack}
-use Rattle.prof_books.specs.Files.{cell_row_of, call_row_of, call_rows_at}
+use Rattle.run_stores.specs.Files.{cell_row_of, call_row_of, call_rows_at}
 
 abbrev pub place_of_cell : CellRow ℕ → CellPlace
 place_of_cell r = record { place = record { object = r.object; file = r.file; function = r.function; line = r.line }; thread = r.thread }

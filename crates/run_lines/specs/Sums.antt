@@ -4,7 +4,7 @@ use Rattle.cg_formulas.specs.declared.heads.FileHead.{FileHead}
 use Rattle.cost_rows.specs.Content.{Content}
 use Rattle.cost_rows.specs.Totals.{AreTotals}
 use Rattle.cost_rows.specs.declared.rows.FileTotals.{FileTotals}
-use Rattle.prof_books.specs.Heads.{ColumnFits}
+use Rattle.run_stores.specs.Heads.{ColumnFits}
 
 -- of every content with these sums
 abbrev pub OfContent : FileHead → FileTotals → (Content → Type 0) → Type 0

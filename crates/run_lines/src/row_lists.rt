@@ -1,7 +1,7 @@
 // The lines that the stacks of a file become, as a list.
 ghost use Rattle.std.specs.Prelude.{◌≡◌, map, IfErr, IfOk};
 ghost use Rattle.cost_rows.specs.Rows.{content_of};
-ghost use Rattle.prof_books.specs.Files.{stack_rows};
+ghost use Rattle.run_stores.specs.Files.{stack_rows};
 ghost use Rattle.run_lines.specs.Fits.{RefusesUnless, StacksFit};
 ghost use Rattle.store_schema.specs.Lines.{stack_row};
 

@@ -4,7 +4,7 @@ use Rattle.std.proofs.lemmas.List.{map_push, take_more}
 use Rattle.std.proofs.lemmas.List.Folds.{fold-map}
 use Rattle.std.proofs.lemmas.List.Sorted.{IsPermutation-map}
 use Rattle.plain_tables.specs.Tables.{Tables, EventRow}
-use Rattle.prof_books.specs.Totals.{held_self, held_calls}
+use Rattle.run_stores.specs.Totals.{held_self, held_calls}
 use Rattle.run_stores.specs.SelfSums.{AreSelfSums, PlacedSum, events_of_run, self_of_line, sums_from}
 use Rattle.run_lists.specs.Listed.{AreListed, event_row}
 use Rattle.run_lists.specs.Sums.{calls_sum, events_named, placed_sum, self_sum}

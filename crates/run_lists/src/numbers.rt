@@ -3,7 +3,7 @@ ghost use Rattle.std.specs.Prelude.{◌≡◌, ◌==◌, bytes_eq, string_bytes,
 ghost use Rattle.std.specs.List.{list_any};
 ghost use Rattle.std.specs.List.Sorted.{IsNonDecreasing};
 ghost use Rattle.plain_tables.specs.Tables.{Tables};
-ghost use Rattle.prof_books.specs.Entries.{held_run};
+ghost use Rattle.run_stores.specs.BookEntries.{held_run};
 ghost use Rattle.run_stores.specs.Entries.{entry_run};
 ghost use Rattle.run_stores.specs.Lookups.{members_in_tables, numbers_in_tables};
 ghost use Rattle.run_lists.specs.Listed.{AreListed};

@@ -1,7 +1,7 @@
 // The sums of events: of those of a run, and over all runs.
 ghost use Rattle.std.specs.Prelude.{◌≡◌, ◌==◌, map, filter, length, sum_by, IfOk};
 ghost use Rattle.plain_tables.specs.Tables.{Tables};
-ghost use Rattle.prof_books.specs.Totals.{IsHeldIn};
+ghost use Rattle.run_stores.specs.Totals.{IsHeldIn};
 ghost use Rattle.run_stores.specs.SelfSums.{AreSelfSums, events_of_run, sums_from};
 ghost use Rattle.run_lists.specs.Listed.{AreListed};
 ghost use Rattle.run_lists.specs.Sums.{calls_sum, placed_sum, self_sum};

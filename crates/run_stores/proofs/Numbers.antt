@@ -5,7 +5,7 @@ use Rattle.std.proofs.lemmas.Bool.{cases_Bool}
 use Rattle.std.proofs.lemmas.Bool.Decides.{nat_tests}
 use Rattle.std.proofs.lemmas.Slice.Eq.{bytes_eq-Decides}
 use Rattle.plain_tables.specs.Tables.{NameRow}
-use Rattle.prof_books.specs.Book.{name_of, no_name, IsHeld}
+use Rattle.run_stores.specs.Book.{name_of, no_name, IsHeld}
 use Rattle.run_stores.specs.Names.{AreApart, IsNumberOf, is_number}
 
 -- a number that is not held has no name

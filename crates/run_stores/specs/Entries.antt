@@ -5,7 +5,7 @@ use Rattle.std.specs.Ordering.{nat_cmp}
 use Rattle.std.specs.Cmp.Lexicographic.{slice_cmp}
 use Rattle.std.specs.declared.cmp.Ordering.TheVariants.{Less}
 use Rattle.plain_tables.specs.Tables.{Tables, GroupRow, MemberRow}
-use Rattle.prof_books.specs.Entries.{HeldRun}
+use Rattle.run_stores.specs.BookEntries.{HeldRun}
 use Rattle.profile_records.specs.Kinds.{kind_number}
 use Rattle.run_stores.specs.declared.entries.GroupEntry.{GroupEntry}
 use Rattle.run_stores.specs.declared.entries.RunEntry.{RunEntry}

@@ -1,7 +1,16 @@
+pub mod Book
+pub mod BookEntries
+pub mod BookRuns
 pub mod Calls
 pub mod Entries
+pub mod Files
+pub mod Heads
+pub mod HeldHeads
 pub mod Lookups
 pub mod Names
-pub mod SelfSums
+pub mod Order
+pub mod Parts
 pub mod Runs
+pub mod SelfSums
+pub mod Totals
 pub mod Walks

@@ -4,7 +4,7 @@ use Rattle.std.specs.List.{AllByRecursion}
 use Rattle.cost_rows.specs.declared.rows.ArcRow.{ArcRow}
 use Rattle.cost_rows.specs.declared.rows.CellRow.{CellRow}
 use Rattle.plain_tables.specs.Tables.{NameRow}
-use Rattle.prof_books.specs.Book.{name_of, IsHeld}
+use Rattle.run_stores.specs.Book.{name_of, IsHeld}
 
 abbrev pub named_cell : List NameRow → CellRow ℕ → CellRow (List ℕ)
 named_cell names r = record {

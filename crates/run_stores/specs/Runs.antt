@@ -2,7 +2,7 @@
 use Rattle.std.specs.Prelude.{ℕ, List}
 use Rattle.cost_rows.specs.Rows.{content_of}
 use Rattle.plain_tables.specs.Tables.{Tables}
-use Rattle.prof_books.specs.Runs.{with_file}
+use Rattle.run_stores.specs.BookRuns.{with_file}
 use Rattle.profile_records.specs.declared.kinds.Kind.{Kind}
 use Rattle.run_stores.specs.declared.summed.SummedFile.{SummedFile}
 

@@ -4,7 +4,7 @@
 pub trait NameTable {
     ghost use Rattle.std.specs.Prelude.{◌≡◌, List, None, IfSome};
     ghost use Rattle.plain_tables.specs.Tables.{NameRow};
-    ghost use Rattle.prof_books.specs.Book.{name_of, IsHeld};
+    ghost use Rattle.run_stores.specs.Book.{name_of, IsHeld};
 
     /// The names as rows.
     ghost name_rows: { Self → List NameRow };

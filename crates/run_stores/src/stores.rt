@@ -2,10 +2,10 @@
 ghost use Rattle.std.specs.Prelude.{◌≡◌, ◌↔◌, true, length, map, fold, IfOk};
 ghost use Rattle.std.specs.List.{AllAdjacentBelow, AllByRecursion};
 ghost use Rattle.std.specs.Result.{is_ok};
-ghost use Rattle.prof_books.specs.Book.{stacks_held, IsHeld};
-ghost use Rattle.prof_books.specs.Entries.{held_run};
-ghost use Rattle.prof_books.specs.HeldHeads.{IsHeadIn};
-ghost use Rattle.prof_books.specs.Totals.{IsHeldIn};
+ghost use Rattle.run_stores.specs.Book.{stacks_held, IsHeld};
+ghost use Rattle.run_stores.specs.BookEntries.{held_run};
+ghost use Rattle.run_stores.specs.HeldHeads.{IsHeadIn};
+ghost use Rattle.run_stores.specs.Totals.{IsHeldIn};
 ghost use Rattle.plain_tables.specs.Changes.{has_group, has_run, joined, with_baseline, with_group, without_group, without_member, without_run};
 ghost use Rattle.plain_tables.specs.Labels.{IsGroupName};
 ghost use Rattle.plain_tables.specs.RunRows.{calls_in, cells_in};

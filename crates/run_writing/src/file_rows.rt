@@ -5,7 +5,7 @@ ghost use Rattle.std.specs.Result.{is_ok};
 ghost use Rattle.cost_rows.specs.Rows.{content_of};
 ghost use Rattle.plain_tables.specs.Changes.{with_cells, with_calls, with_stacks};
 ghost use Rattle.plain_tables.specs.Files.{all_named, numbers_in};
-ghost use Rattle.prof_books.specs.Files.{cell_rows, call_rows, stack_rows};
+ghost use Rattle.run_stores.specs.Files.{cell_rows, call_rows, stack_rows};
 ghost use Rattle.store_schema.specs.Within.{Writes, Tells};
 
 use crate::line_writing::insert_lines;

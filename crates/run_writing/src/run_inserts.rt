@@ -4,7 +4,7 @@ ghost use Rattle.std.specs.Result.{is_ok};
 ghost use Rattle.cost_rows.specs.Totals.{count_total};
 ghost use Rattle.cost_rows.specs.Rows.{content_of};
 ghost use Rattle.plain_tables.specs.Lists.{Has};
-ghost use Rattle.prof_books.specs.Heads.{IsComplete};
+ghost use Rattle.run_stores.specs.Heads.{IsComplete};
 ghost use Rattle.run_lines.specs.Sums.{AllFit};
 ghost use Rattle.run_stores.specs.Runs.{with_summed};
 ghost use Rattle.prof_store.specs.Shown.{ChangesIf, KeepsShut, MakesOf};

@@ -8,8 +8,8 @@ use Rattle.plain_tables.specs.Tables.{Tables}
 use Rattle.plain_tables.specs.declared.errors.StoreError.{StoreError}
 use Rattle.histories.specs.declared.answers.Answer.{Answer}
 use Rattle.requests.specs.Plain.{Query}
-use Rattle.store_histories.specs.Answered.{WasAsked, has_changed}
-use Rattle.store_histories.proofs.Questions.{IsTold, asked_once}
+use Rattle.histories.specs.Answered.{WasAsked, has_changed}
+use Rattle.histories.proofs.Questions.{IsTold, asked_once}
 
 -- the first finds what the second is over: the store is read as the same lines between them too
 pub asked_twice : {S : Type 0} (g : Ghosts S) (Shows : Tables → Answer → Type 0) (query : Query) → IsTold Shows query → (result : Result Answer StoreError) (old new mid : S)

@@ -12,7 +12,7 @@ use Rattle.cost_rows.specs.KeySums.{sums_by}
 use Rattle.report_texts.specs.Costs.{StandForEach, all_rows, costs_by}
 use Rattle.cost_reports.proofs.CostLemmas.{cells_are_records}
 use Rattle.cost_rows.specs.WalkSums.{rows_cost}
-use Rattle.prof_books.specs.Book.{cells_held}
+use Rattle.run_stores.specs.Book.{cells_held}
 use Rattle.plain_tables.specs.Tables.{Tables}
 use Rattle.histories.specs.History.{History, File, held}
 use Rattle.histories.specs.Reports.{counts_of, event_records, has_event}

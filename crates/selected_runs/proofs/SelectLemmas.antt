@@ -4,7 +4,7 @@ use Rattle.plain_tables.proofs.Lists.{filter_same_on}
 use Rattle.plain_tables.specs.Changes as tables
 use Rattle.plain_tables.specs.Labels.{IsGroupName}
 use Rattle.plain_tables.specs.Tables.{Tables, RunRow}
-use Rattle.prof_books.specs.Book.{run_held}
+use Rattle.run_stores.specs.Book.{run_held}
 use Rattle.run_stores.specs.Lookups.{members_in_tables, numbers_in_tables}
 use Rattle.histories.specs.History.{History, File, held, is_member}
 use Rattle.histories.specs.Legal.{has_group, has_run, when}
@@ -17,7 +17,7 @@ use Rattle.requests.specs.Plain.{Selection}
 use Rattle.requests.specs.declared.selections.Selection.TheVariants as selections
 use Rattle.histories.proofs.Selections.{are_selected}
 use Rattle.histories.proofs.Tells.{tells_group, tells_run}
-use Rattle.store_histories.proofs.Settled.{no_group_named}
+use Rattle.histories.proofs.Settled.{no_group_named}
 use Rattle.selected_runs.specs.Selected.{AreSelected, AreSelectedIn, IsSought}
 
 numbers_of_books : (t : Tables) (files : List File) (lines : List RunRow) → AreBooksOf files (map (run_held t) lines) → map (λ (r : RunRow). r.number) lines ≡ numbers_of files

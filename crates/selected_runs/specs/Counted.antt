@@ -4,9 +4,9 @@ use Rattle.std.specs.Option.{is_some}
 use Rattle.cg_formulas.specs.Flats.{row_of}
 use Rattle.cg_formulas.specs.declared.heads.FileHead.{FileHead}
 use Rattle.report_texts.specs.Costs.{EventCells}
-use Rattle.prof_books.specs.Book.{cells_held}
+use Rattle.run_stores.specs.Book.{cells_held}
 use Rattle.plain_tables.specs.Tables.{Tables}
-use Rattle.prof_books.specs.HeldHeads.{IsHeadIn}
+use Rattle.run_stores.specs.HeldHeads.{IsHeadIn}
 use Rattle.selected_runs.specs.declared.counting.Counted.{Counted}
 
 -- a run of the tables, by its head

@@ -14,14 +14,14 @@ use Rattle.histories.specs.Requests.{command_read}
 use Rattle.requests.specs.declared.commands.Command as requests
 use Rattle.histories.specs.declared.answers.Answer.{Answer}
 use Rattle.histories.specs.declared.answers.Answer.TheVariants.{Text}
-use Rattle.store_histories.specs.Answered.{Answers, Links}
-use Rattle.store_histories.proofs.Links.{links_append}
+use Rattle.histories.specs.Answered.{Answers, Links}
+use Rattle.histories.proofs.Links.{links_append}
 use Rattle.warehouse.proofs.Taken.{taken_by, taken_clean}
 use Rattle.byte_io.specs.Reads.{Reads}
 use Rattle.byte_io.specs.Imported.{IsReadOf, WereRead}
-use Rattle.seen_files.specs.Seen.{SeenReads, opened}
-use Rattle.seen_files.specs.declared.seen.SeenFile.{SeenFile}
-use Rattle.answer_lines.specs.Answers.{is_refused}
+use Rattle.file_reading.specs.Seen.{SeenReads, opened}
+use Rattle.file_reading.specs.declared.seen.SeenFile.{SeenFile}
+use Rattle.warehouse.specs.Answers.{is_refused}
 use Rattle.sessions.specs.Sessions.{AreLinesOf, AreReadAs, ArePrinted, ArePrintedInPart, IsLineOf, Prints, Took, WasDone, WasCut, WasPerformed, WasTold, answers_of, commands_of, status_after}
 use Rattle.sessions.specs.declared.session.Session.{Session}
 

@@ -7,11 +7,11 @@ use Rattle.histories.specs.declared.answers.Answer.TheVariants as answers
 use Rattle.histories.specs.declared.answers.Refusal.TheVariants as reasons
 use Rattle.requests.specs.declared.commands.Command as requests
 use Rattle.requests.specs.declared.commands.Command.TheVariants as asks
-use Rattle.seen_files.specs.Findings.{fault_finding, unread_finding}
-use Rattle.seen_files.specs.declared.beginnings.Beginning.{Beginning}
-use Rattle.seen_files.specs.declared.beginnings.Beginning.TheVariants as beginnings
-use Rattle.seen_files.specs.declared.findings.Finding.{Finding}
-use Rattle.seen_files.specs.declared.findings.Finding.TheVariants as findings
+use Rattle.file_reading.specs.Findings.{fault_finding, unread_finding}
+use Rattle.file_reading.specs.declared.beginnings.Beginning.{Beginning}
+use Rattle.file_reading.specs.declared.beginnings.Beginning.TheVariants as beginnings
+use Rattle.file_reading.specs.declared.findings.Finding.{Finding}
+use Rattle.file_reading.specs.declared.findings.Finding.TheVariants as findings
 
 -- why it is not read; or, where it has a fault, what it looks like; or that it is empty
 abbrev pub imported_finding : Kind → Answer → Option Beginning → Option ErrorKind → Option Finding

@@ -14,7 +14,7 @@ use Rattle.byte_io.specs.Imported.{WereRead}
 use Rattle.requests.specs.Plain.{plain_request}
 use Rattle.requests.specs.declared.commands.Command as requests
 use Rattle.requests.specs.declared.commands.Command.TheVariants as asks
-use Rattle.answer_lines.specs.Answers.{is_refused, line_text, takes_memory}
+use Rattle.warehouse.specs.Answers.{is_refused, line_text, takes_memory}
 use Rattle.warehouse.specs.Taken.{WereTaken}
 use Rattle.sessions.specs.declared.session.Session.{Session}
 

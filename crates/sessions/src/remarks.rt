@@ -7,7 +7,7 @@ use crate::commands::WordsCommand;
 use histories::{Answer, Refusal};
 use profile_records::Kind;
 use requests::Command;
-use seen_files::{Beginning, Finding, SeenFile, fault_finding, unread_finding};
+use file_reading::{Beginning, Finding, SeenFile, fault_finding, unread_finding};
 use std::io::ErrorKind;
 use std::rt::Files;
 

@@ -1,7 +1,7 @@
 // The store of runs over SQLite tables.
 ghost use Rattle.std.specs.Prelude.{◌≡◌, ◌↔◌, true};
 ghost use Rattle.std.specs.List.{AllByRecursion};
-ghost use Rattle.prof_books.specs.Book.{IsHeld};
+ghost use Rattle.run_stores.specs.Book.{IsHeld};
 
 use cg_formulas::FileHead;
 use cg_text::ListVec;

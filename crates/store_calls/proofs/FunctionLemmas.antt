@@ -20,11 +20,11 @@ use Rattle.report_texts.specs.declared.call_sides.CallSide.{CallSide}
 use Rattle.report_texts.specs.declared.call_sides.CallSide.TheVariants as sides
 use Rattle.cost_reports.proofs.AddedLemmas.{calls_come_to}
 use Rattle.cost_reports.proofs.CallCostLemmas.{calls_are_records}
-use Rattle.prof_books.specs.Book.{cells_held, stacks_held}
+use Rattle.run_stores.specs.Book.{cells_held, stacks_held}
 use Rattle.plain_tables.specs.Tables.{Tables}
 use Rattle.profile_records.specs.Records.{Record, Own, Called}
 use Rattle.profile_records.specs.Stacks.{Seen}
-use Rattle.named_rows.specs.Named.{AreCallsOf}
+use Rattle.number_sums.specs.NamedRows.{AreCallsOf}
 use Rattle.histories.specs.Files.{records_of, stacks_of}
 use Rattle.histories.specs.History.{History, File, held}
 use Rattle.histories.specs.Legal.{expected_of_calls, expected_of_query, first_or, no_name, when}
@@ -39,7 +39,7 @@ use Rattle.histories.specs.declared.answers.Refusal.TheVariants.{NoSuchName}
 use Rattle.requests.specs.Plain.{Selection, calls_query}
 use Rattle.histories.proofs.Runs.{tells_rows}
 use Rattle.histories.proofs.Tests.{any-append}
-use Rattle.store_histories.specs.FromTables.{AnswersFor, text_or_no_name}
+use Rattle.histories.specs.FromTables.{AnswersFor, text_or_no_name}
 use Rattle.selected_runs.specs.Added.{AreAdded}
 use Rattle.selected_runs.specs.EventRuns.{AreEventRuns, AreEventRunsIn}
 use Rattle.store_calls.specs.FunctionCalls.{AreEdgesOf, AreCallsShown, ShowsCalls, AreTakenFrom, IsCallsText, IsTakenFrom, Taken, is_in_cells, is_in_rows, is_in_stacks, not_taken, text_taken, touches, with_call}

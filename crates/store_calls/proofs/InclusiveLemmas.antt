@@ -19,12 +19,12 @@ use Rattle.report_texts.specs.Functions.{is_one_function}
 use Rattle.report_texts.specs.Inclusive.{InclusiveCosts, InclusiveRow, OfSelf, OfCalls, OfStack, SameStacks, by_function, calls_in, inclusive_report, inclusive_rows, inclusive_text, no_costs, self_in, stacks_in, with_inclusive, with_outward, with_self}
 use Rattle.cost_reports.proofs.AddedLemmas.{inclusive_come_to}
 use Rattle.cost_reports.proofs.InclusiveLemmas.{inclusive_are_records}
-use Rattle.prof_books.specs.Book.{cell_held, cells_held, stacks_held, IsHeld}
+use Rattle.run_stores.specs.Book.{cell_held, cells_held, stacks_held, IsHeld}
 use Rattle.plain_tables.specs.Tables.{Tables, StoredCell, NameRow}
 use Rattle.profile_records.specs.Stacks.{Seen}
 use Rattle.profile_records.specs.declared.kinds.Kind.{Kind}
 use Rattle.profile_records.specs.declared.kinds.Kind.TheVariants.{Callgrind, Folded}
-use Rattle.named_rows.specs.Named.{AreCallsOf}
+use Rattle.number_sums.specs.NamedRows.{AreCallsOf}
 use Rattle.number_sums.specs.Sums.{numbers_told}
 use Rattle.run_stores.specs.Lookups.{IsKindOf}
 use Rattle.run_stores.specs.Names.{named_call, AreApart}
@@ -44,7 +44,7 @@ use Rattle.requests.specs.declared.queries.Query.TheVariants.{Inclusive}
 use Rattle.histories.specs.declared.answers.Refusal.{Refusal}
 use Rattle.requests.specs.Plain.{Selection}
 use Rattle.histories.proofs.Runs.{tells_rows}
-use Rattle.store_histories.specs.FromTables.{AnswersFor, ShowsText}
+use Rattle.histories.specs.FromTables.{AnswersFor, ShowsText}
 use Rattle.selected_runs.specs.Added.{AreAdded}
 use Rattle.selected_runs.specs.EventRuns.{AreEventRuns, AreEventRunsIn}
 use Rattle.store_calls.specs.InclusiveParts.{Counting, PartSums, AreHeld, AreNamesFor, costs_named, none_added, sums_in, weighted_number, with_call_row, with_self_row, with_stack_row}

@@ -3,7 +3,7 @@ use Rattle.std.proofs.Common.{◌≡◌, ℕ, Bool, true, ◌==◌, List, [], �
 use Rattle.std.proofs.lemmas.Bool.Decides.{nat_tests}
 use Rattle.plain_tables.specs.Lists.{Has}
 use Rattle.plain_tables.proofs.Lists.{kept_has}
-use Rattle.prof_books.specs.Book.{run_held}
+use Rattle.run_stores.specs.Book.{run_held}
 use Rattle.plain_tables.specs.Tables.{Tables, RunRow}
 use Rattle.profile_records.specs.Kinds.{kind_number}
 use Rattle.profile_records.specs.declared.kinds.Kind.{Kind}

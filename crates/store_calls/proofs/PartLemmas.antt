@@ -24,7 +24,7 @@ use Rattle.report_texts.specs.Functions.{function_spot, is_one_function}
 use Rattle.report_texts.specs.Inclusive.{InclusiveCosts, by_function, functions_in, names_costs, with_outward, with_self, with_stack}
 use Rattle.cost_reports.proofs.AddedLemmas.{keeps_key}
 use Rattle.cost_reports.proofs.KeyLemmas.{parts_where, rows_of_where, same_by_key, where_append}
-use Rattle.prof_books.specs.Book.{name_of, IsHeld}
+use Rattle.run_stores.specs.Book.{name_of, IsHeld}
 use Rattle.plain_tables.specs.Tables.{NameRow}
 use Rattle.run_stores.specs.Names.{named_call, named_cell, AreApart}
 use Rattle.number_sums.specs.Sums.{SumsByNumber, number_rows, numbers_cmp, numbers_part, numbers_told, numbers_with, told}

@@ -10,12 +10,12 @@ use Rattle.report_texts.specs.Calls.{Calls, CallsOfFunction, EventEdges, all_edg
 use Rattle.report_texts.specs.Functions.{function_spot, is_one_function}
 use Rattle.report_texts.specs.Inclusive.{is_frame}
 use Rattle.report_texts.specs.declared.call_sides.CallSide.{CallSide}
-use Rattle.prof_books.specs.Book.{cells_held, stacks_held}
+use Rattle.run_stores.specs.Book.{cells_held, stacks_held}
 use Rattle.plain_tables.specs.Tables.{Tables}
-use Rattle.named_rows.specs.Named.{AreCallsOf}
+use Rattle.number_sums.specs.NamedRows.{AreCallsOf}
 use Rattle.histories.specs.declared.answers.Answer.{Answer}
 use Rattle.requests.specs.Plain.{Selection}
-use Rattle.store_histories.specs.FromTables.{AnswersBy, text_or_no_name}
+use Rattle.histories.specs.FromTables.{AnswersBy, text_or_no_name}
 use Rattle.selected_runs.specs.EventRuns.{AreEventRunsIn}
 use Rattle.selected_runs.specs.declared.counting.Counted.{Counted}
 

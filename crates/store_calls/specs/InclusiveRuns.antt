@@ -8,18 +8,18 @@ use Rattle.cost_rows.specs.declared.rows.CellRow.{CellRow}
 use Rattle.report_texts.specs.Calls.{weighted_calls}
 use Rattle.report_texts.specs.Costs.{weighted}
 use Rattle.report_texts.specs.Inclusive.{InclusiveCosts, InclusiveRow, OfSelf, OfCalls, OfStack, inclusive_report, inclusive_text, no_costs, with_inclusive}
-use Rattle.prof_books.specs.Book.{cells_held, stacks_held, IsHeld}
+use Rattle.run_stores.specs.Book.{cells_held, stacks_held, IsHeld}
 use Rattle.plain_tables.specs.Tables.{Tables, NameRow}
 use Rattle.profile_records.specs.declared.kinds.Kind.{Kind}
 use Rattle.profile_records.specs.declared.kinds.Kind.TheVariants.{Callgrind, Folded}
-use Rattle.named_rows.specs.Named.{AreCallsOf}
+use Rattle.number_sums.specs.NamedRows.{AreCallsOf}
 use Rattle.run_stores.specs.Lookups.{IsKindOf}
 use Rattle.run_stores.specs.Names.{AreApart}
 use Rattle.number_sums.specs.Named.{AreOf}
 use Rattle.number_sums.specs.Sums.{numbers_told}
 use Rattle.histories.specs.declared.answers.Answer.{Answer}
 use Rattle.requests.specs.Plain.{Selection}
-use Rattle.store_histories.specs.FromTables.{AnswersBy, ShowsText}
+use Rattle.histories.specs.FromTables.{AnswersBy, ShowsText}
 use Rattle.selected_runs.specs.EventRuns.{AreEventRunsIn}
 use Rattle.selected_runs.specs.declared.counting.Counted.{Counted}
 use Rattle.store_calls.specs.InclusiveParts.{PartSums, AreHeld, costs_named}

@@ -13,7 +13,7 @@ use Rattle.report_texts.specs.declared.call_sides.CallSide.{CallSide}
 use Rattle.report_texts.specs.declared.call_sides.CallSide.TheVariants.{Callers, Callees}
 use Rattle.report_texts.specs.declared.pairs.Pair.{Pair}
 use Rattle.plain_tables.specs.Tables.{NameRow}
-use Rattle.prof_books.specs.Book.{name_of}
+use Rattle.run_stores.specs.Book.{name_of}
 use Rattle.run_stores.specs.Names.{is_number}
 use Rattle.store_calls.specs.FunctionCalls.{Taken}
 use Rattle.store_calls.specs.declared.asked_functions.AskedFunction.{AskedFunction}

@@ -6,7 +6,7 @@ ghost use Rattle.report_texts.specs.Calls.{call_report_of, call_report_text};
 ghost use Rattle.report_texts.specs.Functions.{function_spot};
 ghost use Rattle.run_stores.specs.Calls.{Told, AsksIfOpen};
 ghost use Rattle.requests.specs.Plain.{calls_query, plain_selection};
-ghost use Rattle.store_histories.specs.Answered.{AnswersAsked};
+ghost use Rattle.histories.specs.Answered.{AnswersAsked};
 ghost use Rattle.store_calls.specs.FunctionCalls.{AreCallsShown, IsCallsText, is_in_rows, text_taken};
 ghost use Rattle.store_calls.specs.KeptCalls.{IsAsked, kept_of, spot_asked, sums_named, taken_named};
 

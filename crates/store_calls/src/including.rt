@@ -9,7 +9,7 @@ ghost use Rattle.run_stores.specs.Calls.{Asks, AsksIfOpen, Told};
 ghost use Rattle.run_stores.specs.Walks.{IsOfAnEvent};
 ghost use Rattle.requests.specs.Plain.{plain_selection};
 ghost use Rattle.requests.specs.declared.queries.Query.TheVariants.{Inclusive};
-ghost use Rattle.store_histories.specs.Answered.{AnswersAsked};
+ghost use Rattle.histories.specs.Answered.{AnswersAsked};
 ghost use Rattle.store_calls.specs.InclusiveParts.{AreNamesFor, sums_in};
 ghost use Rattle.store_calls.specs.InclusiveRuns.{AddsHeld, AreRowsCounted, AreRowsOfKind, IsInclusive, IsInclusiveText, IsTextNamed};
 

@@ -9,7 +9,7 @@ use crate::asked_functions::AskedFunction;
 use crate::kept_rows::{KeptCall, KeptCalls};
 use cost_reports::CallSums;
 use cost_rows::ArcRow;
-use named_rows::held_name;
+use number_sums::held_name;
 use report_texts::CallSide;
 use run_stores::{NameTable, StoreError};
 use std::alloc::{AllocError, Global};

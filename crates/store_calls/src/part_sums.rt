@@ -6,7 +6,7 @@ ghost use Rattle.cost_rows.specs.Plain.{plain_stack};
 ghost use Rattle.cost_rows.specs.declared.keys.Key.TheVariants.{Function};
 ghost use Rattle.report_texts.specs.Pairs.{AreBelow};
 ghost use Rattle.plain_tables.specs.Tables.{NameRow};
-ghost use Rattle.prof_books.specs.Book.{IsHeld};
+ghost use Rattle.run_stores.specs.Book.{IsHeld};
 ghost use Rattle.number_sums.specs.Named.{AreOf};
 ghost use Rattle.number_sums.specs.Sums.{numbers_told, numbers_total};
 ghost use Rattle.store_calls.specs.InclusiveParts.{costs_named, none_added, sums_in, with_calls, with_self_costs, with_stacks};

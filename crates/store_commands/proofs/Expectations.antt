@@ -16,8 +16,8 @@ use Rattle.histories.specs.declared.answers.Refusal.TheVariants as reasons
 use Rattle.histories.specs.declared.limits.Limits.{Limits}
 use Rattle.histories.proofs.Tells.{tells_run, tells_group, tells_groups}
 use Rattle.histories.proofs.Steps.{tell_made, tell_dropped, tell_joined, tell_left, tell_based}
-use Rattle.store_histories.specs.Refusals.{missing_of, refused_or}
-use Rattle.store_histories.proofs.Settled.{bad_name, no_group_named}
+use Rattle.histories.specs.Refusals.{missing_of, refused_or}
+use Rattle.histories.proofs.Settled.{bad_name, no_group_named}
 use Rattle.store_commands.specs.Changes.{IsDoneIn, changed, command_from_change, refusal_for, unmade_for, unnamed_for}
 use Rattle.store_commands.specs.declared.changes.GroupChange.{GroupChange}
 use Rattle.store_commands.specs.declared.changes.GroupChange.TheVariants as change

@@ -1,3 +1,5 @@
 mod Expectations
+mod Imports
+mod Inserts
 mod LineLemmas
 mod ListLemmas

@@ -10,7 +10,7 @@ use Rattle.histories.specs.declared.answers.Answer.{Answer}
 use Rattle.histories.specs.declared.answers.Answer.TheVariants.{Text}
 use Rattle.requests.specs.declared.queries.Query.TheVariants.{Runs, Groups}
 use Rattle.histories.proofs.Texts.{tells_runs_text, tells_groups_text}
-use Rattle.store_histories.specs.FromTables.{ShowsText}
+use Rattle.histories.specs.FromTables.{ShowsText}
 use Rattle.store_commands.specs.Lists.{IsListOfRuns, IsListOfGroups}
 
 pub runs_are_expected : (h : History) (t : Tables) (answer : Answer) → TablesRepresent h t → ShowsText (IsListOfRuns t) answer → answer ≡ expected_of_query h Runs

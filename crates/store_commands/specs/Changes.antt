@@ -9,7 +9,7 @@ use Rattle.histories.specs.declared.answers.Answer.TheVariants as answers
 use Rattle.histories.specs.declared.answers.Refusal.{Refusal}
 use Rattle.histories.specs.declared.answers.Refusal.TheVariants.{BadName, Full, GroupTaken, NoSuchGroup}
 use Rattle.histories.specs.declared.limits.Limits.{Limits}
-use Rattle.store_histories.specs.Refusals.{missing_of}
+use Rattle.histories.specs.Refusals.{missing_of}
 use Rattle.store_commands.specs.declared.changes.GroupChange.{GroupChange}
 use Rattle.store_commands.specs.declared.changes.GroupChange.TheVariants.{Make, Drop, Join, Leave, SetBaseline}
 

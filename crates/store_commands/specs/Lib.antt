@@ -1,2 +1,5 @@
 pub mod Changes
+pub mod FromTables
+pub mod Imports
 pub mod Lists
+pub mod Refused

@@ -2,7 +2,7 @@
 use Rattle.std.specs.Prelude.{◌≡◌, ℕ, List, map, flat_map, length, string_bytes}
 use Rattle.std.specs.List.{AllAdjacentBelow}
 use Rattle.plain_tables.specs.Tables.{Tables}
-use Rattle.prof_books.specs.Entries.{held_run}
+use Rattle.run_stores.specs.BookEntries.{held_run}
 use Rattle.run_stores.specs.Entries.{entry_run, AreGroups, IsBefore}
 use Rattle.run_stores.specs.declared.entries.RunEntry.{RunEntry}
 use Rattle.run_stores.specs.declared.entries.GroupEntry.{GroupEntry}

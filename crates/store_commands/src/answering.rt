@@ -4,14 +4,13 @@ ghost use Rattle.plain_tables.specs.Labels.{IsGroupName};
 ghost use Rattle.run_stores.specs.Calls.{IsFaithful};
 ghost use Rattle.histories.specs.History.{Remove};
 ghost use Rattle.histories.specs.declared.answers.Answer.TheVariants.{Refused};
-ghost use Rattle.store_histories.specs.Answered.{Answers};
-ghost use Rattle.store_histories.specs.FromTables.{WasChangedIn};
+ghost use Rattle.histories.specs.Answered.{Answers};
+ghost use Rattle.histories.specs.FromTables.{WasChangedIn};
 ghost use Rattle.store_commands.specs.Changes.{GroupsIn, RemovesIn, command_from_change, unnamed_for};
 
 use crate::changes::{GroupChange, change_group, group_name, remove, unnamed};
-use histories::{Answer, Limits};
+use histories::{Answer, Limits, answer_of};
 use run_stores::RunStore;
-use store_histories::answer_of;
 
 /// Drops a run.
 pub fn remove_in<S: RunStore>(store: &mut S, number: u32) -> Answer

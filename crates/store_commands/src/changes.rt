@@ -7,8 +7,8 @@ ghost use Rattle.plain_tables.specs.Labels.{IsGroupName};
 ghost use Rattle.run_stores.specs.Calls.{Asks, ChangesIf, IsFaithful, KeepsShut, Made, Represents, Told};
 ghost use Rattle.histories.specs.History.{History, Remove};
 ghost use Rattle.histories.specs.declared.limits.Limits.{Limits};
-ghost use Rattle.store_histories.specs.Answered.{RepresentsHistory, WasExpected, StepsToIf, has_changed};
-ghost use Rattle.store_histories.specs.Refusals.{missing_of};
+ghost use Rattle.histories.specs.Answered.{RepresentsHistory, WasExpected, StepsToIf, has_changed};
+ghost use Rattle.histories.specs.Refusals.{missing_of};
 ghost use Rattle.store_commands.specs.Changes.{GroupsIn, RemovesIn, changed, command_from_change, refusal_for, unmade_for, unnamed_for};
 
 use histories::{Answer, Limits, Refusal};

@@ -5,8 +5,8 @@ ghost use Rattle.hex.specs.Hex.{encode_lower};
 ghost use Rattle.run_stores.specs.Calls.{Asks, Told};
 ghost use Rattle.histories.specs.Texts as texts;
 ghost use Rattle.requests.specs.declared.queries.Query.TheVariants.{Runs, Groups};
-ghost use Rattle.store_histories.specs.Answered.{AnswersAsked};
-ghost use Rattle.store_histories.specs.FromTables.{ShowsText};
+ghost use Rattle.histories.specs.Answered.{AnswersAsked};
+ghost use Rattle.histories.specs.FromTables.{ShowsText};
 ghost use Rattle.store_commands.specs.Lists.{IsListOfGroups, IsListOfRuns, entry_line, group_entry_line};
 
 use cg_text::ListVec;

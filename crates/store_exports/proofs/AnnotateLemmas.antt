@@ -13,7 +13,7 @@ use Rattle.cost_exports.proofs.LineLemmas.{annotation-records}
 use Rattle.report_texts.specs.Costs.{all_rows, weighted}
 use Rattle.cost_rows.specs.Walks.{HaveCosts}
 use Rattle.cost_rows.specs.declared.rows.CellRow.{CellRow}
-use Rattle.prof_books.specs.Book.{cell_held, cells_held, name_of, no_name}
+use Rattle.run_stores.specs.Book.{cell_held, cells_held, name_of, no_name}
 use Rattle.plain_tables.specs.RunRows.{cells_in}
 use Rattle.plain_tables.specs.Tables.{Tables, StoredCell}
 use Rattle.run_stores.specs.Names.{AreApart, IsNumberOf, is_number}
@@ -32,7 +32,7 @@ use Rattle.histories.specs.declared.answers.Refusal.{Refusal}
 use Rattle.histories.specs.declared.answers.Refusal.TheVariants.{NoSuchName}
 use Rattle.requests.specs.Plain.{Selection}
 use Rattle.histories.proofs.Runs.{tells_rows}
-use Rattle.store_histories.specs.FromTables.{AnswersFor, text_or_no_name}
+use Rattle.histories.specs.FromTables.{AnswersFor, text_or_no_name}
 use Rattle.selected_runs.specs.Counted.{event_cells}
 use Rattle.selected_runs.specs.EventRuns.{AreEventRuns, AreEventRunsIn}
 use Rattle.selected_runs.specs.declared.counting.Counted.{Counted}

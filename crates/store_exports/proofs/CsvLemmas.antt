@@ -18,7 +18,7 @@ use Rattle.requests.specs.declared.queries.Query.TheVariants as queries
 use Rattle.histories.specs.declared.answers.Refusal.{Refusal}
 use Rattle.requests.specs.Plain.{Selection}
 use Rattle.histories.proofs.Runs.{tells_rows}
-use Rattle.store_histories.specs.FromTables.{AnswersFor, ShowsText}
+use Rattle.histories.specs.FromTables.{AnswersFor, ShowsText}
 use Rattle.selected_runs.specs.Added.{AreAdded}
 use Rattle.selected_runs.specs.Selected.{AreSelected, AreSelectedIn}
 use Rattle.histories.proofs.Heads.{held_head_told}

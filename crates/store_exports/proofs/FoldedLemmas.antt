@@ -10,7 +10,7 @@ use Rattle.report_texts.specs.Inclusive.{SameStacks}
 use Rattle.cost_rows.specs.StackSums.{frames_sum}
 use Rattle.cost_rows.specs.WalkSums.{stacks_count}
 use Rattle.cost_rows.specs.declared.rows.StackRow.{StackRow}
-use Rattle.prof_books.specs.Book.{stacks_held}
+use Rattle.run_stores.specs.Book.{stacks_held}
 use Rattle.plain_tables.specs.Tables.{Tables}
 use Rattle.profile_records.specs.Stacks.{Seen}
 use Rattle.histories.specs.Exports.{file_stacks, folded_of_files}
@@ -24,7 +24,7 @@ use Rattle.requests.specs.declared.queries.Query.TheVariants as queries
 use Rattle.histories.specs.declared.answers.Refusal.{Refusal}
 use Rattle.requests.specs.Plain.{Selection}
 use Rattle.histories.proofs.Runs.{tells_rows}
-use Rattle.store_histories.specs.FromTables.{AnswersFor}
+use Rattle.histories.specs.FromTables.{AnswersFor}
 use Rattle.selected_runs.specs.Added.{AreAdded}
 use Rattle.selected_runs.specs.Selected.{AreSelected, AreSelectedIn}
 use Rattle.selected_runs.proofs.RunLemmas.{selected_held}

@@ -3,14 +3,14 @@ use Rattle.std.specs.Prelude.{◌≡◌, ℕ, if◌then◌else◌, List, [], map
 use Rattle.report_texts.specs.Annotations.{FileCosts, annotation_of, annotation_text, no_lines, with_line}
 use Rattle.report_texts.specs.Costs.{all_rows, weighted}
 use Rattle.cost_rows.specs.declared.rows.CellRow.{CellRow}
-use Rattle.prof_books.specs.Book.{cells_held}
+use Rattle.run_stores.specs.Book.{cells_held}
 use Rattle.plain_tables.specs.RunRows.{cells_in}
 use Rattle.plain_tables.specs.Tables.{Tables}
 use Rattle.run_stores.specs.Names.{is_number}
 use Rattle.run_stores.specs.Walks.{cell_numbers}
 use Rattle.histories.specs.declared.answers.Answer.{Answer}
 use Rattle.requests.specs.Plain.{Selection}
-use Rattle.store_histories.specs.FromTables.{AnswersBy, text_or_no_name}
+use Rattle.histories.specs.FromTables.{AnswersBy, text_or_no_name}
 use Rattle.selected_runs.specs.Counted.{event_cells}
 use Rattle.selected_runs.specs.EventRuns.{AreEventRunsIn}
 use Rattle.selected_runs.specs.declared.counting.Counted.{Counted}

@@ -2,12 +2,12 @@
 use Rattle.std.specs.Prelude.{◌≡◌, ℕ, List, fold, flat_map}
 use Rattle.report_texts.specs.Folded.{folded_of_rows, folded_text, with_stack}
 use Rattle.cost_rows.specs.declared.rows.StackRow.{StackRow}
-use Rattle.prof_books.specs.Book.{stacks_held}
+use Rattle.run_stores.specs.Book.{stacks_held}
 use Rattle.plain_tables.specs.Tables.{Tables}
 use Rattle.histories.specs.declared.answers.Answer.{Answer}
 use Rattle.histories.specs.declared.answers.Answer.TheVariants.{Text}
 use Rattle.requests.specs.Plain.{Selection}
-use Rattle.store_histories.specs.FromTables.{AnswersBy}
+use Rattle.histories.specs.FromTables.{AnswersBy}
 use Rattle.selected_runs.specs.Selected.{AreSelectedIn}
 
 -- the stacks of runs, one run after another

@@ -8,7 +8,7 @@ ghost use Rattle.run_stores.specs.Calls.{Told, AsksIfOpen};
 ghost use Rattle.run_stores.specs.Walks.{IsOfAnEvent};
 ghost use Rattle.requests.specs.Plain.{plain_selection};
 ghost use Rattle.requests.specs.declared.queries.Query.TheVariants.{Annotate};
-ghost use Rattle.store_histories.specs.Answered.{AnswersAsked};
+ghost use Rattle.histories.specs.Answered.{AnswersAsked};
 ghost use Rattle.store_exports.specs.Annotated.{IsAnnotated, annotated_over, numbered_from};
 
 use crate::sinks::LineRows;

@@ -5,7 +5,7 @@ ghost use Rattle.report_texts.specs.Folded.{folded_text};
 ghost use Rattle.run_stores.specs.Calls.{Told, AsksIfOpen};
 ghost use Rattle.requests.specs.Plain.{plain_selection};
 ghost use Rattle.requests.specs.declared.queries.Query.TheVariants.{Folded};
-ghost use Rattle.store_histories.specs.Answered.{AnswersAsked};
+ghost use Rattle.histories.specs.Answered.{AnswersAsked};
 ghost use Rattle.store_exports.specs.FoldedRuns.{IsFolded, folded_over};
 
 use crate::sinks::StackRows;

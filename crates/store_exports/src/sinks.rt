@@ -8,7 +8,7 @@ ghost use Rattle.store_exports.specs.Annotated.{file_cell};
 use cg_text::ListVec;
 use cost_exports::{CellSums, LineSums, StackSums};
 use cost_rows::{CellRow, StackRow};
-use named_rows::NamedCellSink;
+use number_sums::NamedCellSink;
 use run_stores::{CellSink, StackRowSink, StoreError};
 use selected_runs::{is_within, weighted_within};
 

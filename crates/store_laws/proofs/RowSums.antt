@@ -15,9 +15,9 @@ use Rattle.plain_tables.specs.Lists.{Has}
 use Rattle.plain_tables.proofs.Lists.{all_has}
 use Rattle.plain_tables.specs.RunRows.{calls_in, cells_in, stacks_in}
 use Rattle.plain_tables.specs.Tables.{Tables, RunRow, EventRow, NameRow, StoredCell, StoredCall, StoredStack}
-use Rattle.prof_books.specs.Book.{cell_held, part_held, run_held, stack_held}
-use Rattle.prof_books.specs.Heads.{stated_at}
-use Rattle.prof_books.specs.Parts.{parts_sum}
+use Rattle.run_stores.specs.Book.{cell_held, part_held, run_held, stack_held}
+use Rattle.run_stores.specs.Heads.{stated_at}
+use Rattle.run_stores.specs.Parts.{parts_sum}
 use Rattle.folded_reader.specs.Files.{stacks_of_file}
 use Rattle.histories.specs.Files.{events_of, records_of, sample, stacks_of, stated_of}
 use Rattle.histories.specs.Formats.{Format, Callgrind, Folded, kind_in}

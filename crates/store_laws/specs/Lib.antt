@@ -1,1 +1,4 @@
+pub mod Databases
 pub mod First
+pub mod Pages
+pub mod SameFiles

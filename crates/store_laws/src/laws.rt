@@ -21,7 +21,7 @@ ghost use Rattle.run_lists.specs.RowSums.{calls_of_run, cells_of_run, stacks_of_
 ghost use Rattle.histories.specs.History.{History};
 ghost use Rattle.histories.specs.Marks.{IsMarked};
 ghost use Rattle.histories.specs.Representation.{TablesRepresent};
-ghost use Rattle.store_histories.specs.Answered.{HasHistory, RepresentsHistory};
+ghost use Rattle.histories.specs.Answered.{HasHistory, RepresentsHistory};
 ghost use Rattle.sql_runs.specs.States.{state_of};
 ghost use Rattle.sql_runs.specs.declared.store.SqlRuns.{SqlRuns};
 ghost use Rattle.store_laws.specs.First.{RepresentsFirst, AgreesEither};

@@ -14,7 +14,7 @@ use Rattle.page_runs.specs.declared.store.PageRuns.{PageRuns}
 use Rattle.histories.specs.History.{History}
 use Rattle.histories.specs.Legal.{IsHistory}
 use Rattle.histories.specs.Representation.{TablesRepresent}
-use Rattle.store_histories.specs.Answered.{HasHistory}
+use Rattle.histories.specs.Answered.{HasHistory}
 
 -- files can be used, and show this, where no wrong answer was taken as true
 pub record ShowImage {D : Type 0} (g : Ghosts D) (image : Image) (files : Files D) : Type 0 where

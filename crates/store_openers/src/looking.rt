@@ -3,7 +3,7 @@ ghost use Rattle.std.specs.Prelude.{◌≡◌, IfOk};
 
 use crate::opener::{Opener, Unread};
 use crate::opening::changed_by_another;
-use files_to_read::Standing;
+use file_disks::Standing;
 use page_runs::PageRuns;
 use sqlite_disk::Disk;
 use std::rt::HostRuntime;

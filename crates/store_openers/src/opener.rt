@@ -3,7 +3,7 @@ ghost use Rattle.std.specs.Prelude.{IfOk};
 ghost use Rattle.sqlite_wal.specs.Recovery.{Image};
 ghost use Rattle.store_openers.specs.Opened.{IsStoreOf};
 
-use files_to_read::Standing;
+use file_disks::Standing;
 use page_runs::PageRuns;
 use sqlite_disk::Disk;
 use std::rt::HostRuntime;

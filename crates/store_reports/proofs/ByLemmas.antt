@@ -15,7 +15,7 @@ use Rattle.histories.specs.declared.answers.Answer.TheVariants.{Text, Refused}
 use Rattle.requests.specs.declared.queries.Query.TheVariants.{By}
 use Rattle.histories.specs.declared.answers.Refusal.{Refusal}
 use Rattle.requests.specs.Plain.{Selection}
-use Rattle.store_histories.specs.FromTables.{AnswersFor}
+use Rattle.histories.specs.FromTables.{AnswersFor}
 use Rattle.selected_runs.specs.EventRuns.{AreEventRuns, AreEventRunsIn}
 use Rattle.selected_runs.specs.declared.counting.Counted.{Counted}
 use Rattle.selected_runs.proofs.EventLemmas.{both_held, event_runs_told}

@@ -6,7 +6,7 @@ use Rattle.std.proofs.lemmas.Grind.{common_steps}
 use Rattle.std.proofs.lemmas.List.Sums.{sum_by-cons}
 use Rattle.cost_rows.specs.declared.rows.CellRow.{CellRow}
 use Rattle.plain_tables.specs.Tables.{NameRow, StoredCell}
-use Rattle.prof_books.specs.Book.{cell_held}
+use Rattle.run_stores.specs.Book.{cell_held}
 use Rattle.store_reports.specs.CellSums.{column_cost, with_cost}
 
 abbrev pub with_cell : List ℕ → CellRow (List ℕ) → List ℕ

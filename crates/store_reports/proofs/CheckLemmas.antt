@@ -18,7 +18,7 @@ use Rattle.requests.specs.declared.queries.Query.TheVariants.{Verify}
 use Rattle.histories.specs.declared.answers.Refusal.{Refusal}
 use Rattle.requests.specs.Plain.{Selection}
 use Rattle.store_reports.specs.Checked.{IsChecked, IsRunChecked, IsVerified, AreChecked}
-use Rattle.store_histories.specs.FromTables.{AnswersFor, ShowsText}
+use Rattle.histories.specs.FromTables.{AnswersFor, ShowsText}
 use Rattle.selected_runs.specs.Added.{AreAdded}
 use Rattle.selected_runs.specs.Selected.{AreSelected, AreSelectedIn}
 use Rattle.histories.proofs.Heads.{Count, held_head_told, same_order, verified_told}

@@ -22,7 +22,7 @@ use Rattle.requests.specs.Plain.{Selection}
 use Rattle.requests.specs.declared.selections.Selection.TheVariants as selections
 use Rattle.histories.proofs.Runs.{tells_group_of}
 use Rattle.histories.proofs.Tests.{any-append, bytes-self}
-use Rattle.store_histories.specs.FromTables.{AnswersBy, AnswersFor}
+use Rattle.histories.specs.FromTables.{AnswersBy, AnswersFor}
 use Rattle.store_reports.specs.Compared.{AnswersDifference, AreBasedIn, AreCompared, AreComparedIn, IsSubtracted}
 use Rattle.selected_runs.specs.Counted.{AreCounted, has_counts}
 use Rattle.selected_runs.specs.Selected.{AreSelected, AreSelectedIn, IsSought}

@@ -12,7 +12,7 @@ use Rattle.report_texts.specs.Costs.{all_rows, weighted}
 use Rattle.report_texts.specs.KeyReports.{report_of}
 use Rattle.report_texts.specs.KeyTexts.{key_report_text}
 use Rattle.report_texts.specs.declared.cuts.Cut.{Cut}
-use Rattle.prof_books.specs.Book.{cell_held, cells_held}
+use Rattle.run_stores.specs.Book.{cell_held, cells_held}
 use Rattle.plain_tables.specs.RunRows.{cells_in}
 use Rattle.plain_tables.specs.Tables.{Tables, StoredCell, NameRow}
 use Rattle.run_stores.specs.Names.{named_cell}

@@ -11,7 +11,7 @@ use Rattle.report_texts.specs.KeyTexts.{key_report_text}
 use Rattle.report_texts.specs.declared.cuts.Cut.{Cut}
 use Rattle.cost_reports.specs.Enough.{AreEnough}
 use Rattle.cost_reports.proofs.EnoughLemmas.{same_total}
-use Rattle.prof_books.specs.Book.{IsHeld}
+use Rattle.run_stores.specs.Book.{IsHeld}
 use Rattle.plain_tables.specs.Tables.{Tables, NameRow}
 use Rattle.run_stores.specs.Names.{AreApart, named_cell}
 use Rattle.number_sums.specs.Named.{AreOf, named_sum}

@@ -5,12 +5,12 @@ use Rattle.cg_formulas.specs.declared.heads.FileHead.{FileHead}
 use Rattle.report_texts.specs.Verifying.{verified, verify_text}
 use Rattle.plain_tables.specs.RunRows.{cells_in}
 use Rattle.plain_tables.specs.Tables.{Tables}
-use Rattle.prof_books.specs.Book.{CellIsNamed}
-use Rattle.prof_books.specs.HeldHeads.{IsHeadIn}
+use Rattle.run_stores.specs.Book.{CellIsNamed}
+use Rattle.run_stores.specs.HeldHeads.{IsHeadIn}
 use Rattle.run_stores.specs.SelfSums.{AreSelfSums, events_of_run}
 use Rattle.histories.specs.declared.answers.Answer.{Answer}
 use Rattle.requests.specs.Plain.{Selection}
-use Rattle.store_histories.specs.FromTables.{AnswersBy, ShowsText}
+use Rattle.histories.specs.FromTables.{AnswersBy, ShowsText}
 use Rattle.selected_runs.specs.Selected.{AreSelectedIn}
 use Rattle.store_reports.specs.CellSums.{AreOfCells}
 

@@ -19,7 +19,7 @@ use Rattle.histories.specs.declared.answers.Refusal.{Refusal}
 use Rattle.histories.specs.declared.answers.Refusal.TheVariants.{NoBaseline, NoSuchEvent}
 use Rattle.requests.specs.Plain.{Selection}
 use Rattle.requests.specs.declared.selections.Selection.TheVariants as selections
-use Rattle.store_histories.specs.FromTables.{AnswersBy}
+use Rattle.histories.specs.FromTables.{AnswersBy}
 use Rattle.selected_runs.specs.Counted.{AreCounted, event_cells, has_counts}
 use Rattle.selected_runs.specs.Selected.{AreSelectedIn, IsSought, run_in}
 use Rattle.selected_runs.specs.declared.counting.Counted.{Counted}

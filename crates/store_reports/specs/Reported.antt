@@ -9,7 +9,7 @@ use Rattle.report_texts.specs.Costs.{all_rows}
 use Rattle.report_texts.specs.KeyReports.{report_of}
 use Rattle.report_texts.specs.KeyTexts.{key_report_text}
 use Rattle.report_texts.specs.declared.cuts.Cut.{Cut}
-use Rattle.prof_books.specs.Book.{IsHeld}
+use Rattle.run_stores.specs.Book.{IsHeld}
 use Rattle.plain_tables.specs.RunRows.{cells_in}
 use Rattle.plain_tables.specs.Tables.{Tables}
 use Rattle.run_stores.specs.Walks.{cell_numbers}
@@ -19,7 +19,7 @@ use Rattle.number_sums.specs.Sums.{SumsByNumber, numbers_told, numbers_total, wi
 use Rattle.histories.specs.declared.answers.Answer.{Answer}
 use Rattle.histories.specs.declared.answers.Answer.TheVariants.{Text}
 use Rattle.requests.specs.Plain.{Selection}
-use Rattle.store_histories.specs.FromTables.{AnswersBy}
+use Rattle.histories.specs.FromTables.{AnswersBy}
 use Rattle.selected_runs.specs.Counted.{event_cells}
 use Rattle.selected_runs.specs.EventRuns.{AreEventRunsIn}
 use Rattle.selected_runs.specs.declared.counting.Counted.{Counted}

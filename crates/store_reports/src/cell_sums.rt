@@ -3,12 +3,12 @@ ghost use Rattle.std.specs.Prelude.{◌≡◌};
 ghost use Rattle.std.specs.List.{AllByRecursion};
 ghost use Rattle.std.specs.Result.{is_ok};
 ghost use Rattle.plain_tables.specs.RunRows.{cells_in};
-ghost use Rattle.prof_books.specs.Book.{CellIsNamed};
+ghost use Rattle.run_stores.specs.Book.{CellIsNamed};
 ghost use Rattle.run_stores.specs.Calls.{Told, AsksIfOpen};
 ghost use Rattle.store_reports.specs.CellSums.{AreOfCells};
 
 use cost_rows::CellRow;
-use named_rows::{NamedCellSink, each_named_cell};
+use number_sums::{NamedCellSink, each_named_cell};
 use run_stores::{RunStore, StoreError};
 use std::alloc::Global;
 

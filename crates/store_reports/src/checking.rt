@@ -3,10 +3,10 @@ ghost use Rattle.std.specs.Prelude.{◌≡◌, ◌++◌, flat_map, OnOk};
 ghost use Rattle.std.specs.Result.{is_ok};
 ghost use Rattle.report_texts.specs.Verifying.{verified, verify_text};
 ghost use Rattle.run_stores.specs.Calls.{Told, AsksIfOpen};
-ghost use Rattle.prof_books.specs.HeldHeads.{IsHeadIn};
+ghost use Rattle.run_stores.specs.HeldHeads.{IsHeadIn};
 ghost use Rattle.requests.specs.Plain.{plain_selection};
 ghost use Rattle.requests.specs.declared.queries.Query.TheVariants.{Verify};
-ghost use Rattle.store_histories.specs.Answered.{AnswersAsked};
+ghost use Rattle.histories.specs.Answered.{AnswersAsked};
 ghost use Rattle.store_reports.specs.Checked.{IsChecked, IsVerified, AreChecked};
 
 use crate::cell_sums::check_cells;

@@ -8,7 +8,7 @@ ghost use Rattle.number_sums.specs.Named.{AreOf};
 ghost use Rattle.number_sums.specs.Sums.{numbers_told};
 ghost use Rattle.requests.specs.Plain.{plain_selection};
 ghost use Rattle.requests.specs.declared.queries.Query.TheVariants.{Subtract};
-ghost use Rattle.store_histories.specs.Answered.{AnswersAsked, has_changed};
+ghost use Rattle.histories.specs.Answered.{AnswersAsked, has_changed};
 ghost use Rattle.store_reports.specs.Compared.{AnswersDifference, AreBaselineIn, AreComparedIn, IsSubtracted, difference_over, named_sums};
 
 use crate::merging::number_runs;

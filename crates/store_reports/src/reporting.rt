@@ -7,14 +7,14 @@ ghost use Rattle.cost_rows.specs.Sums.{Spot};
 ghost use Rattle.report_texts.specs.KeyReports.{report_of};
 ghost use Rattle.report_texts.specs.KeyTexts.{key_report_text};
 ghost use Rattle.cost_reports.specs.Enough.{AreEnough};
-ghost use Rattle.prof_books.specs.Book.{IsHeld};
+ghost use Rattle.run_stores.specs.Book.{IsHeld};
 ghost use Rattle.run_stores.specs.Calls.{Asks, AsksIfOpen, Told};
 ghost use Rattle.run_stores.specs.Names.{AreAmong};
 ghost use Rattle.number_sums.specs.Named.{named_sum};
 ghost use Rattle.number_sums.specs.Sums.{numbers_told};
 ghost use Rattle.requests.specs.Plain.{plain_selection};
 ghost use Rattle.requests.specs.declared.queries.Query.TheVariants.{By};
-ghost use Rattle.store_histories.specs.Answered.{AnswersAsked};
+ghost use Rattle.histories.specs.Answered.{AnswersAsked};
 ghost use Rattle.store_reports.specs.Reported.{AreShown, IsReported, report_over};
 
 use crate::merging::number_runs;

@@ -13,8 +13,8 @@ use Rattle.histories.specs.declared.answers.Answer.{Answer}
 use Rattle.histories.specs.declared.answers.Answer.TheVariants.{Text}
 use Rattle.requests.specs.Plain.{Query}
 use Rattle.histories.specs.declared.limits.Limits.{Limits}
-use Rattle.store_histories.specs.Answered.{Answers, AnswersAsked, answer_for}
-use Rattle.store_histories.proofs.Questions.{question_answered}
+use Rattle.histories.specs.Answered.{Answers, AnswersAsked, answer_for}
+use Rattle.histories.proofs.Questions.{question_answered}
 use Rattle.warehouse.specs.Answered.{IsGivenFor, IsShort}
 
 module _ {S : Type 0} (g : Ghosts S) (Shows : Tables → Answer → Type 0) (query : Query) (old new : S) where

@@ -7,7 +7,7 @@ use Rattle.byte_io.specs.Outcomes.{Outcome}
 use Rattle.histories.specs.History.{History, Step}
 use Rattle.histories.specs.declared.answers.Answer.{Answer}
 use Rattle.histories.specs.declared.limits.Limits.{Limits}
-use Rattle.store_histories.proofs.Links.{links_on}
+use Rattle.histories.proofs.Links.{links_on}
 use Rattle.warehouse.specs.Answered.{AreCommandsOf, Lent, Says, WasAnswered, WasRun}
 use Rattle.warehouse.proofs.Taken.{taken_by}
 

@@ -4,8 +4,8 @@ use Rattle.run_stores.specs.declared.states.StoreState.{Ghosts}
 use Rattle.run_stores.specs.Calls.{IsFaithful}
 use Rattle.histories.specs.History.{History}
 use Rattle.histories.specs.declared.limits.Limits.{Limits}
-use Rattle.store_histories.specs.Answered.{Links}
-use Rattle.store_histories.proofs.Links.{links_after, links_clean, links_legal}
+use Rattle.histories.specs.Answered.{Links}
+use Rattle.histories.proofs.Links.{links_after, links_clean, links_legal}
 use Rattle.warehouse.specs.Taken.{WereTaken}
 
 module _ {S : Type 0} (g : Ghosts S) (limits : Limits) where

@@ -13,8 +13,8 @@ use Rattle.histories.specs.declared.limits.Limits.{Limits}
 use Rattle.histories.proofs.ReadsExpected.{failed_expected, long_expected}
 use Rattle.histories.proofs.Held.{IsStill}
 use Rattle.histories.specs.Representation.{TablesRepresent}
-use Rattle.store_histories.specs.Answered.{Answers, Follows, is_accepted}
-use Rattle.store_histories.proofs.Settled.{untouched}
+use Rattle.histories.specs.Answered.{Answers, Follows, is_accepted}
+use Rattle.histories.proofs.Settled.{untouched}
 use Rattle.warehouse.specs.Answered.{IsShort, unread_for}
 use Rattle.byte_io.proofs.Outcomes.{failed_within, failed_is}
 use Rattle.byte_io.specs.Reads.{IsUnreadFor}

@@ -13,7 +13,7 @@ use Rattle.histories.specs.declared.limits.Limits.{Limits}
 use Rattle.byte_io.specs.Reads.{Reads}
 use Rattle.byte_io.specs.declared.reading.Unread.{Unread}
 use Rattle.byte_io.specs.declared.reading.Unread.TheVariants as unread
-use Rattle.store_histories.specs.Answered.{Answers}
+use Rattle.histories.specs.Answered.{Answers}
 use Rattle.histories.specs.Requests.{command_read}
 use Rattle.requests.specs.Plain.{plain_command}
 use Rattle.requests.specs.declared.commands.Command as commands

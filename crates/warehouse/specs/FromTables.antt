@@ -18,14 +18,14 @@ use Rattle.plain_tables.specs.Labels.{IsGroupName, IsLabel}
 use Rattle.profile_records.specs.declared.kinds.Kind.{Kind}
 use Rattle.file_reading.specs.FileParsers.{IsParsedOf}
 use Rattle.file_reading.specs.declared.parser.ParsedFile.{ParsedFile}
-use Rattle.run_imports.specs.FromTables.{IsImported}
+use Rattle.store_commands.specs.FromTables.{IsImported}
 use Rattle.histories.specs.declared.limits.Limits.{Limits}
 use Rattle.store_commands.specs.Changes.{GroupsIn, RemovesIn}
 use Rattle.store_commands.specs.Lists.{IsListOfGroups, IsListOfRuns}
 use Rattle.store_exports.specs.Annotated.{IsAnnotated}
 use Rattle.store_exports.specs.CsvRuns.{IsCsv}
 use Rattle.store_exports.specs.FoldedRuns.{IsFolded}
-use Rattle.store_histories.specs.FromTables.{OrFailed, ShowsText, WasChangedIn}
+use Rattle.histories.specs.FromTables.{OrFailed, ShowsText, WasChangedIn}
 use Rattle.store_reports.specs.Checked.{IsVerified}
 use Rattle.store_reports.specs.Compared.{IsSubtracted}
 use Rattle.store_reports.specs.Reported.{IsReported}

@@ -5,7 +5,7 @@ use Rattle.histories.specs.History.{History}
 use Rattle.histories.specs.Legal.{AreLegal}
 use Rattle.histories.specs.Standard.{IsStandard}
 use Rattle.histories.specs.declared.limits.Limits.{Limits}
-use Rattle.store_histories.specs.Answered.{HasHistory, Links}
+use Rattle.histories.specs.Answered.{HasHistory, Links}
 
 module _ {S : Type 0} (g : Ghosts S) where
   -- each step was taken from the store that the one before left; after a history that the store has, each answer is legal, and the store has the history with all of them

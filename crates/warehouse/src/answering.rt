@@ -9,8 +9,8 @@ ghost use Rattle.histories.specs.Requests.{command_read};
 ghost use Rattle.histories.specs.declared.answers.Answer.{Answer};
 ghost use Rattle.requests.specs.Plain.{plain_command, plain_query, plain_selection};
 ghost use Rattle.requests.specs.declared.queries.Query.TheVariants.{Csv};
-ghost use Rattle.store_histories.specs.Answered.{Answers, AnswersAsked};
-ghost use Rattle.store_histories.specs.FromTables.{OrFailed};
+ghost use Rattle.histories.specs.Answered.{Answers, AnswersAsked};
+ghost use Rattle.histories.specs.FromTables.{OrFailed};
 ghost use Rattle.warehouse.specs.Answered.{IsGivenFor, IsShort, IsShortFor, ReadsNone, WasAnsweredOver};
 ghost use Rattle.warehouse.specs.FromTables.{AnswersIn, IsFoundOf, WasAnnotated, WasImported};
 
@@ -18,17 +18,15 @@ use crate::refusals::unread_answer;
 use byte_io::{Source, read_to_end};
 use cost_exports::CellSums;
 use file_reading::parse_file;
-use histories::{Answer, Limits, Refusal};
+use histories::{Answer, Limits, Refusal, answer_of};
 use profile_records::Kind;
 use report_texts::CallSide;
 use requests::{Command, Query, Selection};
-use run_imports::{import_parsed, label_of};
+use store_commands::{GroupChange, change_in, groups_answer, import_parsed, label_of, remove_in, runs_answer};
 use run_stores::{RunStore, StoreError};
 use std::alloc::Global;
 use store_calls::{calls_answer, inclusive_answer};
-use store_commands::{GroupChange, change_in, groups_answer, remove_in, runs_answer};
 use store_exports::{annotate_answer, csv_answer, csv_sums, folded_answer};
-use store_histories::answer_of;
 use store_reports::{by_answer, subtract_answer, verify_answer};
 
 /// How many bytes a source that is annotated may have.

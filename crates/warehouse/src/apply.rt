@@ -7,8 +7,8 @@ ghost use Rattle.histories.specs.Requests.{command_read};
 ghost use Rattle.histories.specs.declared.answers.Answer.{Answer};
 ghost use Rattle.requests.specs.Plain.{plain_command, plain_selection};
 ghost use Rattle.requests.specs.declared.queries.Query.TheVariants.{Csv};
-ghost use Rattle.store_histories.specs.Answered.{Answers};
-ghost use Rattle.store_histories.specs.FromTables.{OrFailed};
+ghost use Rattle.histories.specs.Answered.{Answers};
+ghost use Rattle.histories.specs.FromTables.{OrFailed};
 ghost use Rattle.warehouse.specs.Answered.{IsGivenFor, IsShortFor, ReadsNone, WasAnswered, WasAnsweredOver, WasRun};
 ghost use Rattle.warehouse.specs.FromTables.{AnswersIn, IsFoundIn, IsFoundOver, WasImported};
 

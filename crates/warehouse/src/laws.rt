@@ -9,8 +9,8 @@ ghost use Rattle.histories.specs.Marks.{AreBy, IsMarked};
 ghost use Rattle.histories.specs.Representation.{TablesRepresent};
 ghost use Rattle.histories.specs.declared.answers.Answer.{Answer};
 ghost use Rattle.histories.specs.declared.limits.Limits.{Limits};
-ghost use Rattle.store_histories.specs.Answered.{HasHistory, RepresentsHistory, Answers, Links, is_accepted};
-ghost use Rattle.store_histories.specs.Left.{LeavesHistory};
+ghost use Rattle.histories.specs.Answered.{HasHistory, RepresentsHistory, Answers, Links, is_accepted};
+ghost use Rattle.histories.specs.Left.{LeavesHistory};
 ghost use Rattle.warehouse.specs.Answered.{AreCommandsOf, Lent};
 
 use byte_io::Source;

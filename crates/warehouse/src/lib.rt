@@ -1,4 +1,4 @@
-//! The warehouse: commands over a store of runs, and their answers.
+//! The warehouse: commands over a store of runs, their answers, and the line that is printed of each.
 #![tactic(auto)]
 
 // Commands over a store, each with its answer.
@@ -11,7 +11,10 @@ mod laws;
 mod refusals;
 // The warehouse: a store of runs under limits.
 mod warehouse;
+// What is printed of an answer.
+mod answers;
 
+pub use answers::{is_refused, line_of, status_of};
 pub use byte_io::{ReadFault, Source};
 pub use histories::{Answer, Excess, Limits, Refusal};
 pub use laws::{commands_keep_the_mark, crashes_leave_a_history, histories_survive};

@@ -1,6 +1,6 @@
 use Rattle.std.proofs.Common.{◌≡◌, ◌∙◌, ◌++◌, ◌∷◌, [], ℕ, List, map, length, sym, ap, ap₂}
 use Rattle.std.proofs.lemmas.List.{length-map, map-append, map_more}
-use Rattle.prof_books.specs.HeldHeads.{coefs_at, coefs_from, placed}
+use Rattle.run_stores.specs.HeldHeads.{coefs_at, coefs_from, placed}
 use Rattle.held_lines.specs.HeadLines.{derived_place, entry_of_coef}
 use Rattle.held_lines.proofs.HeadReading.{at_place, placed-one_more, coefs_from-one_more, read_part, part_within}
 use Rattle.held_lines.proofs.Steps.{no_err}

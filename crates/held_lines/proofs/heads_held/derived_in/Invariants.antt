@@ -1,5 +1,5 @@
 use Rattle.std.proofs.Common.{◌≡◌, ◌≤◌, map, take, length}
-use Rattle.prof_books.specs.HeldHeads.{coefs_from, placed}
+use Rattle.run_stores.specs.HeldHeads.{coefs_from, placed}
 use Rattle.held_lines.specs.HeadLines.{derived_place, entry_of_coef}
 use Rattle.held_lines.proofs.heads_held.derived_in.Given as goal
 

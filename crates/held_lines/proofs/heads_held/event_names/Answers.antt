@@ -1,5 +1,5 @@
 use Rattle.std.proofs.Common.{◌≡◌, ◌∙◌, ◌++◌, ◌∷◌, [], length, sym, ap, ap₂}
-use Rattle.prof_books.specs.HeldHeads.{placed}
+use Rattle.run_stores.specs.HeldHeads.{placed}
 use Rattle.held_lines.specs.HeadLines.{event_place}
 use Rattle.std.proofs.lemmas.List.{map_more}
 use Rattle.held_lines.proofs.HeadReading.{at_place, placed-one_more}

@@ -1,5 +1,5 @@
 use Rattle.std.proofs.Common.{◌≡◌, map, take}
-use Rattle.prof_books.specs.HeldHeads.{placed}
+use Rattle.run_stores.specs.HeldHeads.{placed}
 use Rattle.held_lines.specs.HeadLines.{event_place}
 use Rattle.held_lines.proofs.heads_held.event_names.Given as goal
 

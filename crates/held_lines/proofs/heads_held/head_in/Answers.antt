@@ -1,6 +1,6 @@
 use Rattle.std.proofs.Common.{rules, ◌≡◌, ◌∙◌, ◌++◌, ℕ, List, true, map, sym, ap, ap₂}
 use Rattle.cg_text.specs.Distinct.{are_distinct}
-use Rattle.prof_books.specs.HeldHeads.{coefs_from, placed}
+use Rattle.run_stores.specs.HeldHeads.{coefs_from, placed}
 use Rattle.held_lines.proofs.HeadReading.{names_of_places, names_of_derived, said_events, stated_for_all}
 use Rattle.held_lines.proofs.heads_held.head_in.Goals as goal
 

@@ -1,6 +1,6 @@
 use Rattle.std.proofs.Common.{◌≡◌, ◌∙◌, ◌++◌, ◌∷◌, [], length, sym, ap, arith}
 use Rattle.std.proofs.lemmas.List.{length_push}
-use Rattle.prof_books.specs.HeldHeads.{coefs_at}
+use Rattle.run_stores.specs.HeldHeads.{coefs_at}
 use Rattle.held_lines.specs.HeadLines.{entry_of_coef}
 use Rattle.held_lines.proofs.HeadReading.{coefs_at-one_more, read_part, part_within}
 use Rattle.held_lines.proofs.Steps.{no_err}

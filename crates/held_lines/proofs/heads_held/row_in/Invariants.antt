@@ -1,5 +1,5 @@
 use Rattle.std.proofs.Common.{◌≡◌, ◌≤◌, map, take, length}
-use Rattle.prof_books.specs.HeldHeads.{coefs_at}
+use Rattle.run_stores.specs.HeldHeads.{coefs_at}
 use Rattle.held_lines.specs.HeadLines.{entry_of_coef}
 use Rattle.held_lines.proofs.heads_held.row_in.Given as goal
 

@@ -1,6 +1,6 @@
 use Rattle.std.proofs.Common.{◌≢◌, drop}
 use Rattle.std.specs.List.{AllByRecursion}
-use Rattle.prof_books.specs.Book.{no_name}
+use Rattle.run_stores.specs.Book.{no_name}
 use Rattle.held_lines.proofs.NumbersOfNames.{IsOtherHeld}
 use Rattle.held_lines.proofs.held_names.number_in.Given as goal
 

@@ -3,7 +3,7 @@ use Rattle.std.specs.Borrow.{Bor}
 use Rattle.sqlite_trees.specs.Tree.{put_row, with_tree}
 use Rattle.page_edits.specs.Places.{place_all, rows_given}
 use Rattle.page_files.specs.Held.{Writes}
-use Rattle.row_writes.proofs.Outcomes.{as_given}
+use Rattle.page_places.proofs.Outcomes.{as_given}
 use Rattle.std.proofs.lemmas.Result.{err_from_is_err_and}
 use Rattle.page_places.proofs.Failing.{memory_fails, pages_fail}
 use Rattle.line_fills.proofs.Failing.{refused_fails}

@@ -6,7 +6,7 @@ use Rattle.std.proofs.lemmas.Result.{err_from_is_err_and}
 use Rattle.sqlite_pool.specs.Pool.{state}
 use Rattle.sqlite_pool.specs.StoredLaws.{Keeps-refl}
 use Rattle.sqlite_sql.specs.Catalog.{entry_of}
-use Rattle.row_writes.proofs.Outcomes.{match_result}
+use Rattle.page_places.proofs.Outcomes.{match_result}
 use Rattle.page_places.proofs.Failing.{memory_fails, store_fails_later}
 use Rattle.line_fills.specs.Causes.{CanEnter, HasRecord}
 use Rattle.line_fills.specs.Rows.{KeysRise, entries_at, numbered}

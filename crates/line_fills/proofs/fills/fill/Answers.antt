@@ -5,8 +5,8 @@ use Rattle.sqlite_pool.specs.Pool.{state}
 use Rattle.sqlite_pool.specs.StoredLaws.{Keeps-refl, Keeps-trans}
 use Rattle.sqlite_value.specs.Order.{Row}
 use Rattle.page_files.proofs.Steps.{writes_after}
-use Rattle.row_writes.specs.Places.{indexes_of}
-use Rattle.row_writes.proofs.Outcomes.{match_result}
+use Rattle.page_places.specs.Places.{indexes_of}
+use Rattle.page_places.proofs.Outcomes.{match_result}
 use Rattle.page_places.proofs.Failing.{store_fails_later}
 use Rattle.line_fills.specs.Causes.{CanBeFilledIn, HasRoom}
 use Rattle.line_fills.proofs.Whole.{behind, can_be_filled, whole_filled, with_news}

@@ -10,10 +10,10 @@ use Rattle.page_files.specs.Files.{IsFaithful}
 use Rattle.page_places.specs.Failures.{FailsToStore, failure_of_row}
 use Rattle.page_places.proofs.Failing.{reading_fails}
 use Rattle.plain_tables.specs.declared.errors.StoreError.{StoreError}
-use Rattle.row_writes.specs.Causes.{FailsToNumber}
-use Rattle.row_writes.specs.declared.errors.RowError.{RowError}
-use Rattle.row_writes.specs.declared.errors.RowError.TheVariants.{Pages, Unstorable, NoRowid}
-use Rattle.row_writes.proofs.Outcomes.{numbered_next}
+use Rattle.page_places.specs.Causes.{FailsToNumber}
+use Rattle.page_places.specs.declared.errors.RowError.{RowError}
+use Rattle.page_places.specs.declared.errors.RowError.TheVariants.{Pages, Unstorable, NoRowid}
+use Rattle.page_places.proofs.Outcomes.{numbered_next}
 use Rattle.line_fills.specs.Causes.{HasRoom, HasRoomFrom}
 use Rattle.line_fills.specs.Rows.{first_from}
 use Rattle.line_fills.proofs.Raised.{all_raised, first_above}

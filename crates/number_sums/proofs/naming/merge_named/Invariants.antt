@@ -1,7 +1,7 @@
 use Rattle.std.proofs.Common.{◌≡◌, ◌+◌, [], fold, map}
 use Rattle.std.specs.List.{AllByRecursion}
 use Rattle.cost_rows.specs.KeySums.{total_of, with_row}
-use Rattle.prof_books.specs.Book.{IsHeld}
+use Rattle.run_stores.specs.Book.{IsHeld}
 use Rattle.run_stores.specs.Names.{named_cell}
 use Rattle.number_sums.specs.Sums.{number_rows, numbers_told, numbers_total}
 use Rattle.number_sums.proofs.naming.merge_named.Given as goal

@@ -2,7 +2,7 @@ use Rattle.std.proofs.Common.{ℕ, get_or, subst, arith}
 use Rattle.std.proofs.lemmas.List.{get_or-map, length-map}
 use Rattle.std.proofs.lemmas.List.Elements.{All-from_recursion}
 use Rattle.std.proofs.lemmas.Result.{err_from_is_err_and}
-use Rattle.prof_books.specs.Book.{IsHeld}
+use Rattle.run_stores.specs.Book.{IsHeld}
 use Rattle.number_sums.specs.Ranked.{sum_of, sums_of}
 use Rattle.number_sums.specs.declared.parts.NumberPart.{NumberPart}
 use Rattle.number_sums.proofs.EnoughLemmas.{no_row}

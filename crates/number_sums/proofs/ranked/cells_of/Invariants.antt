@@ -2,7 +2,7 @@ use Rattle.std.proofs.Common.{◌≡◌, map, take}
 use Rattle.std.specs.List.{AllByRecursion}
 use Rattle.cost_reports.specs.Rows.{sum_of_row}
 use Rattle.cost_rows.specs.Plain.{plain_cell}
-use Rattle.prof_books.specs.Book.{IsHeld}
+use Rattle.run_stores.specs.Book.{IsHeld}
 use Rattle.number_sums.specs.Named.{named_sum}
 use Rattle.number_sums.specs.Ranked.{sums_of}
 use Rattle.number_sums.specs.Sums.{numbers_told}

@@ -5,12 +5,12 @@ use Rattle.sqlite_trees.specs.declared.store.Shape.TheVariants as shape
 use Rattle.sqlite_trees.specs.View.{IsShaped}
 use Rattle.sqlite_value.specs.declared.value.Value.TheVariants.{Int}
 use Rattle.store_schema.specs.Schema.{schema_two, grp_at}
-use Rattle.table_changes.proofs.Groups.{group_behind}
+use Rattle.page_places.proofs.Groups.{group_behind}
 use Rattle.page_changes.proofs.Places.{groups_at}
 use Rattle.page_places.specs.Failures.{FailsToStore}
 use Rattle.page_places.proofs.Failing.{memory_fails}
-use Rattle.row_writes.specs.Places.{indexes_of}
-use Rattle.row_writes.proofs.Outcomes.{match_result}
+use Rattle.page_places.specs.Places.{indexes_of}
+use Rattle.page_places.proofs.Outcomes.{match_result}
 use Rattle.page_changes.specs.Causes.{CanFollow}
 use Rattle.page_changes.proofs.rows.add_group.Goals as goal
 

@@ -2,9 +2,9 @@ use Rattle.std.proofs.Common.{refl, sym, subst}
 use Rattle.sqlite_trees.specs.declared.store.Shape.TheVariants as shape
 use Rattle.sqlite_trees.specs.View.{IsShaped}
 use Rattle.store_schema.specs.Schema.{schema_two, grp_at}
-use Rattle.table_changes.proofs.OneLine.{group_removed}
+use Rattle.page_places.proofs.OneLine.{group_removed}
 use Rattle.page_changes.proofs.Places.{groups_at}
-use Rattle.row_writes.proofs.Outcomes.{match_result}
+use Rattle.page_places.proofs.Outcomes.{match_result}
 use Rattle.page_changes.proofs.rows.erase_group.Goals as goal
 
 pub returns-clause-done : goal.returns-clause-done

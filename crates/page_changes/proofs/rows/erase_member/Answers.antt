@@ -3,10 +3,10 @@ use Rattle.sqlite_rules.specs.Lists.{Has}
 use Rattle.sqlite_trees.specs.declared.store.Shape.TheVariants as shape
 use Rattle.sqlite_trees.specs.View.{IsShaped}
 use Rattle.store_schema.specs.Schema.{schema_two, member_at}
-use Rattle.table_changes.proofs.OneLine.{member_removed}
+use Rattle.page_places.proofs.OneLine.{member_removed}
 use Rattle.page_changes.specs.Named.{named}
 use Rattle.page_changes.proofs.Places.{members_at}
-use Rattle.row_writes.proofs.Outcomes.{match_result}
+use Rattle.page_places.proofs.Outcomes.{match_result}
 use Rattle.page_changes.proofs.rows.erase_member.Goals as goal
 
 pub returns-clause-done : goal.returns-clause-done

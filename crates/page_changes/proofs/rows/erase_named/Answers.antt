@@ -3,8 +3,8 @@ use Rattle.std.proofs.lemmas.Result.{err_from_is_err_and}
 use Rattle.sqlite_pool.specs.StoredLaws.{Keeps-trans}
 use Rattle.sqlite_trees.specs.Tree.{without_rowid}
 use Rattle.page_files.proofs.Steps.{writes_after}
-use Rattle.row_writes.specs.Changes.{HasRows}
-use Rattle.row_writes.proofs.Outcomes.{table_shows}
+use Rattle.page_places.specs.Changes.{HasRows}
+use Rattle.page_places.proofs.Outcomes.{table_shows}
 use Rattle.page_places.proofs.Failing.{row_fails, store_fails_later}
 use Rattle.page_changes.specs.Named.{CanBeFound, IsFound, IsFoundIn}
 use Rattle.page_changes.proofs.Failing.{not_sought}

@@ -7,12 +7,12 @@ use Rattle.sqlite_trees.specs.View.{IsShaped, IsStorableRow}
 use Rattle.sqlite_value.specs.declared.value.Value.TheVariants.{Int, Text}
 use Rattle.sqlite_value.specs.Order.{Row}
 use Rattle.page_files.proofs.Steps.{writes_after}
-use Rattle.row_writes.specs.Changes.{HasRows, KeepsEntries}
-use Rattle.row_writes.specs.Places.{indexes_of}
-use Rattle.row_writes.proofs.Outcomes.{table_shows}
+use Rattle.page_places.specs.Changes.{HasRows, KeepsEntries}
+use Rattle.page_places.specs.Places.{indexes_of}
+use Rattle.page_places.proofs.Outcomes.{table_shows}
 use Rattle.store_schema.specs.Schema.{schema_two, grp_at}
 use Rattle.store_schema.specs.Tables.{number, number_or_null}
-use Rattle.table_changes.proofs.OneLine.{baseline_put}
+use Rattle.page_places.proofs.OneLine.{baseline_put}
 use Rattle.page_places.proofs.Failing.{memory_fails, row_fails, store_fails_later}
 use Rattle.page_changes.specs.Causes.{CanPutBaseline}
 use Rattle.page_changes.specs.Named.{IsFound, IsFoundIn}

@@ -4,8 +4,8 @@ use Rattle.sqlite_value.specs.declared.value.Value.TheVariants.{Int}
 use Rattle.page_files.proofs.Steps.{writes_after}
 use Rattle.sqlite_trees.specs.View.{IsStorableRow}
 use Rattle.page_places.proofs.Failing.{row_fails, store_fails_later}
-use Rattle.row_writes.specs.Changes.{AreBelow, AreStorable, HasRows}
-use Rattle.row_writes.specs.Places.{indexes_of}
+use Rattle.page_places.specs.Changes.{AreBelow, AreStorable, HasRows}
+use Rattle.page_places.specs.Places.{indexes_of}
 use Rattle.page_changes.proofs.Failing.{not_numbered}
 use Rattle.page_changes.proofs.rows.put_behind.Goals as goal
 

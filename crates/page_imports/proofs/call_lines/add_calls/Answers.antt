@@ -2,7 +2,7 @@ use Rattle.std.proofs.Common.{◌≡◌, ℕ, ◌∷◌, ◌++◌, ◌+◌, ◌<
 use Rattle.std.proofs.lemmas.List.{append_assoc, take_more}
 use Rattle.std.proofs.lemmas.Result.{err_from_is_err_and}
 use Rattle.cost_rows.specs.ByNumber.{plain_call}
-use Rattle.prof_books.specs.Files.{call_rows_from}
+use Rattle.run_stores.specs.Files.{call_rows_from}
 use Rattle.page_imports.specs.Fits.{PartsFit}
 use Rattle.run_lines.proofs.RowLines.{parts_more}
 use Rattle.page_imports.specs.Lines.{call_line, cost_row, part_row}

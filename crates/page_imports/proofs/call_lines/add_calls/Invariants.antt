@@ -1,5 +1,5 @@
 use Rattle.std.proofs.Common.{◌≡◌, ◌++◌, ◌∷◌, map, take}
-use Rattle.prof_books.specs.Files.{call_rows_from}
+use Rattle.run_stores.specs.Files.{call_rows_from}
 use Rattle.page_imports.specs.Lines.{call_line, part_row}
 use Rattle.page_imports.proofs.call_lines.add_calls.Given as goal
 

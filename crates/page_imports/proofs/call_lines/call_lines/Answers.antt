@@ -4,7 +4,7 @@ use Rattle.std.proofs.lemmas.Iterator.Consumers.{YieldsList-at, YieldsList-from_
 use Rattle.std.proofs.lemmas.Result.{err_from_is_err_and}
 use Rattle.cost_rows.specs.ByNumber.{plain_call}
 use Rattle.cost_rows.specs.declared.numbered.CallSum.{CallSum}
-use Rattle.prof_books.specs.Files.{call_rows}
+use Rattle.run_stores.specs.Files.{call_rows}
 use Rattle.run_lines.proofs.RowLines.{rows_drained}
 use Rattle.cost_rows.specs.Rows.{content_of}
 use Rattle.page_imports.specs.Fits.{CallsFit, PartsFit}

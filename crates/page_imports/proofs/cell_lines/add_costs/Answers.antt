@@ -3,7 +3,7 @@ use Rattle.std.proofs.lemmas.List.{append_assoc, take_more}
 use Rattle.cost_rows.proofs.AboveLemmas.{above-more}
 use Rattle.std.proofs.lemmas.Result.{err_from_is_err_and}
 use Rattle.cost_rows.specs.ByNumber.{plain_cell_sum}
-use Rattle.prof_books.specs.Files.{cell_rows_at}
+use Rattle.run_stores.specs.Files.{cell_rows_at}
 use Rattle.page_imports.specs.Fits.{CostsFit}
 use Rattle.page_imports.specs.Lines.{cell_line, event_row, self_row}
 use Rattle.page_imports.proofs.Failing.{refuses_for}

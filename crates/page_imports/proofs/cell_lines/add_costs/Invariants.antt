@@ -1,5 +1,5 @@
 use Rattle.std.proofs.Common.{◌≡◌, ◌++◌, map, take}
-use Rattle.prof_books.specs.Files.{cell_rows_at}
+use Rattle.run_stores.specs.Files.{cell_rows_at}
 use Rattle.page_imports.specs.Lines.{cell_line}
 use Rattle.page_imports.proofs.cell_lines.add_costs.Given as goal
 

@@ -4,7 +4,7 @@ use Rattle.line_fills.proofs.Held.{derived_filled}
 use Rattle.store_schema.specs.Lines.{derived_row}
 use Rattle.store_schema.specs.Schema.{schema_two, derived_at}
 use Rattle.store_schema.specs.Tables.{derived_columns}
-use Rattle.row_writes.proofs.Outcomes.{match_result}
+use Rattle.page_places.proofs.Outcomes.{match_result}
 use Rattle.page_imports.specs.Causes.{CanBePut}
 use Rattle.page_imports.proofs.Failing.{fails_for}
 use Rattle.page_imports.proofs.Kept.{filled_keeps}

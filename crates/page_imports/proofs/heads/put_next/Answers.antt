@@ -7,7 +7,7 @@ use Rattle.sqlite_trees.specs.declared.store.Shape.TheVariants as shape
 use Rattle.sqlite_value.specs.declared.value.Value.TheVariants.{Null}
 use Rattle.store_schema.specs.Schema.{schema_two, meta_at}
 use Rattle.store_schema.specs.Tables.{meta_columns, number}
-use Rattle.table_changes.proofs.Numbered.{next_replaced}
+use Rattle.page_places.proofs.Numbered.{next_replaced}
 use Rattle.sqlite_trees.specs.View.{IsStorableRow}
 use Rattle.page_places.proofs.Failing.{memory_fails, row_fails}
 use Rattle.page_imports.specs.Causes.{CanBeWritten}

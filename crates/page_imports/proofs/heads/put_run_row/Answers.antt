@@ -6,14 +6,14 @@ use Rattle.sqlite_trees.specs.View.{IsShaped}
 use Rattle.sqlite_trees.specs.declared.store.Shape.TheVariants as shape
 use Rattle.sqlite_value.specs.declared.value.Value.TheVariants.{Int}
 use Rattle.sqlite_value.specs.Order.{value_cmp}
-use Rattle.row_writes.specs.Changes.{AreBelow, AreStorable}
-use Rattle.row_writes.specs.Places.{indexes_of}
+use Rattle.page_places.specs.Changes.{AreBelow, AreStorable}
+use Rattle.page_places.specs.Places.{indexes_of}
 use Rattle.store_schema.specs.Lines.{run_row}
 use Rattle.store_schema.specs.Schema.{schema_two, run_at}
 use Rattle.store_schema.specs.Tables.{number, run_columns}
 use Rattle.store_schema.proofs.Rows.{runs_below}
-use Rattle.table_changes.proofs.Numbered.{run_behind}
-use Rattle.table_changes.proofs.Store.{runs_there}
+use Rattle.page_places.proofs.Numbered.{run_behind}
+use Rattle.page_places.proofs.Store.{runs_there}
 use Rattle.sqlite_trees.specs.View.{IsStorableRow}
 use Rattle.page_places.proofs.Failing.{memory_fails, row_fails}
 use Rattle.page_imports.specs.Causes.{CanBeWritten}

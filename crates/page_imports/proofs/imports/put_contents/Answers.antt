@@ -5,7 +5,7 @@ use Rattle.cost_rows.specs.Rows.{content_of}
 use Rattle.sqlite_pool.specs.StoredLaws.{Keeps-trans}
 use Rattle.page_places.proofs.Failing.{store_fails_later}
 use Rattle.plain_tables.specs.Tables.{RunRow, StoredCell, StoredCall, StoredStack}
-use Rattle.row_writes.proofs.Outcomes.{match_result}
+use Rattle.page_places.proofs.Outcomes.{match_result}
 use Rattle.store_schema.specs.Lines.{run_row}
 use Rattle.store_schema.proofs.Sound.{sound_of}
 use Rattle.page_imports.specs.Causes.{CanBeFiled, written}

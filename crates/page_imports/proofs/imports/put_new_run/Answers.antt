@@ -8,9 +8,9 @@ use Rattle.page_files.proofs.Steps.{begins}
 use Rattle.page_places.proofs.Failing.{reading_fails, store_fails_later}
 use Rattle.page_places.proofs.Rooting.{store_resting}
 use Rattle.plain_tables.specs.Tables.{EventRow, DerivedRow, CoefRow}
-use Rattle.prof_books.specs.Runs.{filed}
-use Rattle.prof_books.proofs.Filed.{head_of_run}
-use Rattle.row_writes.proofs.Outcomes.{match_result}
+use Rattle.run_stores.specs.BookRuns.{filed}
+use Rattle.run_stores.proofs.Filed.{head_of_run}
+use Rattle.page_places.proofs.Outcomes.{match_result}
 use Rattle.run_lines.proofs.FileInserts.{file_is}
 use Rattle.store_schema.specs.Tables.{Holds}
 use Rattle.page_imports.specs.Causes.{CanBeFiled, CanImport, written}

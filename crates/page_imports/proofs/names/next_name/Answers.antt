@@ -12,10 +12,10 @@ use Rattle.page_places.proofs.Failing.{reading_fails}
 use Rattle.plain_tables.specs.Changes.{next_name}
 use Rattle.plain_tables.specs.Tables.{Tables}
 use Rattle.plain_tables.specs.declared.errors.StoreError.{StoreError}
-use Rattle.row_writes.specs.Causes.{FailsToNumber}
-use Rattle.row_writes.specs.declared.errors.RowError.{RowError}
-use Rattle.row_writes.specs.declared.errors.RowError.TheVariants.{Pages, Unstorable, NoRowid}
-use Rattle.row_writes.proofs.Outcomes.{numbered_next}
+use Rattle.page_places.specs.Causes.{FailsToNumber}
+use Rattle.page_places.specs.declared.errors.RowError.{RowError}
+use Rattle.page_places.specs.declared.errors.RowError.TheVariants.{Pages, Unstorable, NoRowid}
+use Rattle.page_places.proofs.Outcomes.{numbered_next}
 use Rattle.store_schema.specs.Schema.{schema_two, name_at}
 use Rattle.page_imports.proofs.Numbers.{next_rowid_is}
 use Rattle.page_imports.specs.Causes.{AreNarrow}

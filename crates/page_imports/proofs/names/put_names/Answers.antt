@@ -4,7 +4,7 @@ use Rattle.store_schema.specs.Schema.{schema_two, name_at}
 use Rattle.page_imports.specs.declared.numbering.NewName.{NewName}
 use Rattle.page_imports.specs.Names.{bytes_of, name_line}
 use Rattle.page_imports.proofs.Named.{names_filled}
-use Rattle.row_writes.proofs.Outcomes.{match_result}
+use Rattle.page_places.proofs.Outcomes.{match_result}
 use Rattle.page_imports.specs.Causes.{CanBePut}
 use Rattle.page_imports.proofs.Failing.{fails_for}
 use Rattle.page_imports.proofs.Kept.{filled_keeps}

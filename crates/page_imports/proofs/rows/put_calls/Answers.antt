@@ -3,12 +3,12 @@ use Rattle.std.proofs.lemmas.Result.{err_from_is_err_and}
 use Rattle.cost_rows.specs.Rows.{content_of}
 use Rattle.line_fills.specs.Filled.{IsTableFilled}
 use Rattle.line_fills.proofs.Held.{calls_filled}
-use Rattle.prof_books.specs.Files.{call_rows}
-use Rattle.prof_books.proofs.Rows.{calls_of_run}
+use Rattle.run_stores.specs.Files.{call_rows}
+use Rattle.run_stores.proofs.Rows.{calls_of_run}
 use Rattle.store_schema.specs.Schema.{schema_two, arc_at}
 use Rattle.store_schema.specs.Tables.{arc_columns}
 use Rattle.page_imports.specs.Lines.{call_line}
-use Rattle.row_writes.proofs.Outcomes.{match_result}
+use Rattle.page_places.proofs.Outcomes.{match_result}
 use Rattle.page_imports.specs.Causes.{CanBePut, CanPutCalls}
 use Rattle.page_imports.proofs.Failing.{fails_for, refuses_fails}
 use Rattle.page_imports.proofs.Kept.{filled_keeps}

@@ -3,12 +3,12 @@ use Rattle.std.proofs.lemmas.Result.{err_from_is_err_and}
 use Rattle.cost_rows.specs.Rows.{content_of}
 use Rattle.line_fills.specs.Filled.{IsTableFilled}
 use Rattle.line_fills.proofs.Held.{cells_filled}
-use Rattle.prof_books.specs.Files.{cell_rows}
-use Rattle.prof_books.proofs.Rows.{cells_of_run}
+use Rattle.run_stores.specs.Files.{cell_rows}
+use Rattle.run_stores.proofs.Rows.{cells_of_run}
 use Rattle.store_schema.specs.Schema.{schema_two, thread_cell_at}
 use Rattle.store_schema.specs.Tables.{cell_columns}
 use Rattle.page_imports.specs.Lines.{cell_line}
-use Rattle.row_writes.proofs.Outcomes.{match_result}
+use Rattle.page_places.proofs.Outcomes.{match_result}
 use Rattle.page_imports.specs.Causes.{CanBePut, CanPutCells}
 use Rattle.page_imports.proofs.Failing.{fails_for, refuses_fails}
 use Rattle.page_imports.proofs.Kept.{filled_keeps}

@@ -16,9 +16,9 @@ use Rattle.plain_tables.specs.Changes.{with_calls, with_cells, with_stacks}
 use Rattle.plain_tables.specs.Files.{all_named, numbers_in}
 use Rattle.plain_tables.specs.Tables.{Tables}
 use Rattle.plain_tables.specs.declared.errors.StoreError.{StoreError}
-use Rattle.prof_books.specs.Files.{call_rows, cell_rows, stack_rows, with_rows}
-use Rattle.prof_books.proofs.Names.{all_grown}
-use Rattle.row_writes.proofs.Outcomes.{match_result}
+use Rattle.run_stores.specs.Files.{call_rows, cell_rows, stack_rows, with_rows}
+use Rattle.run_stores.proofs.BookNames.{all_grown}
+use Rattle.page_places.proofs.Outcomes.{match_result}
 use Rattle.store_schema.specs.Tables.{Holds, stack_columns}
 use Rattle.store_schema.specs.Schema.{schema_two, name_at, arc_at, stack_at, thread_cell_at}
 use Rattle.page_imports.specs.Causes.{CanBeNumbered, CanPutRows, CanPutStacks}

@@ -3,12 +3,12 @@ use Rattle.std.proofs.lemmas.Result.{err_from_is_err_and}
 use Rattle.cost_rows.specs.Rows.{content_of}
 use Rattle.line_fills.specs.Filled.{IsTableFilled}
 use Rattle.line_fills.proofs.Held.{stacks_filled}
-use Rattle.prof_books.specs.Files.{stack_rows}
-use Rattle.prof_books.proofs.Rows.{stacks_of_run}
+use Rattle.run_stores.specs.Files.{stack_rows}
+use Rattle.run_stores.proofs.Rows.{stacks_of_run}
 use Rattle.store_schema.specs.Lines.{stack_row}
 use Rattle.store_schema.specs.Schema.{schema_two, stack_at}
 use Rattle.store_schema.specs.Tables.{stack_columns}
-use Rattle.row_writes.proofs.Outcomes.{match_result}
+use Rattle.page_places.proofs.Outcomes.{match_result}
 use Rattle.page_imports.specs.Causes.{CanBePut, CanPutStacks}
 use Rattle.page_imports.proofs.Failing.{fails_for, refuses_fails}
 use Rattle.page_imports.proofs.Kept.{filled_keeps}

@@ -1,6 +1,6 @@
 use Rattle.std.proofs.Common.{◌==◌, arith}
 use Rattle.plain_tables.specs.Tables.{EventRow}
-use Rattle.prof_books.specs.HeldHeads.{event_of_line}
+use Rattle.run_stores.specs.HeldHeads.{event_of_line}
 use Rattle.held_lines.specs.HeadLines.{entry_of_event}
 use Rattle.run_lists.specs.Listed.{event_row}
 use Rattle.page_lists.proofs.HeadLists.{all_kept}

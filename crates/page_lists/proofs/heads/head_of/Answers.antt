@@ -1,7 +1,7 @@
 use Rattle.std.proofs.Common.{◌==◌, ℕ, map, sym, subst, ◌∙◌, IsPermutation}
 use Rattle.std.proofs.lemmas.Result.{IfOk-weaker}
 use Rattle.plain_tables.specs.Tables.{EventRow, DerivedRow, CoefRow}
-use Rattle.prof_books.specs.HeldHeads.{coef_of_line, event_of_line, name_of_line}
+use Rattle.run_stores.specs.HeldHeads.{coef_of_line, event_of_line, name_of_line}
 use Rattle.held_lines.specs.HeadLines.{derived_place, entry_of_coef, entry_of_event}
 use Rattle.held_lines.proofs.HeadReading.{read_from_same}
 use Rattle.run_lists.specs.Listed.{coef_row, derived_row, event_row}

@@ -1,6 +1,6 @@
 use Rattle.std.proofs.Common.{◌≡◌, ◌↔◌, true, Bool, map, filter, take, ap, sym, subst, ◌∙◌}
 use Rattle.std.specs.List.{AllByRecursion}
-use Rattle.prof_books.specs.Book.{IsHeld}
+use Rattle.run_stores.specs.Book.{IsHeld}
 use Rattle.page_lists.specs.Among.{Rise, is_among}
 use Rattle.page_lists.proofs.Among.{shown_rise}
 use Rattle.page_lists.proofs.SomeNames.{all_held, found_rise, numbers_are}

@@ -1,6 +1,6 @@
 use Rattle.std.proofs.Common.{fold, map, refl, sym, ap, ◌∙◌}
 use Rattle.plain_tables.specs.Tables.{StoredStack}
-use Rattle.prof_books.specs.Book.{stack_held}
+use Rattle.run_stores.specs.Book.{stack_held}
 use Rattle.store_schema.specs.Tables.{stack_columns}
 use Rattle.store_schema.proofs.RunRows.{one_stack}
 use Rattle.run_lists.specs.RowSums.{sum_of_part}

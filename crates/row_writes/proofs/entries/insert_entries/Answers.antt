@@ -7,9 +7,9 @@ use Rattle.sqlite_record.proofs.AffinityLemmas.{widen-zero}
 use Rattle.sqlite_trees.specs.Tree.{insert_entry}
 use Rattle.sqlite_trees.specs.View.{IsStorable}
 use Rattle.page_files.proofs.Causes.{fails_later}
-use Rattle.row_writes.specs.Changes.{AreStorable}
-use Rattle.row_writes.specs.Entries.{with_entries}
-use Rattle.row_writes.proofs.Filling.{all_edited, next_index, none_edited, not_storable, one_more, refused_fails}
+use Rattle.page_places.specs.Changes.{AreStorable}
+use Rattle.page_places.specs.Entries.{with_entries}
+use Rattle.page_places.proofs.Filling.{all_edited, next_index, none_edited, not_storable, one_more, refused_fails}
 use Rattle.row_writes.proofs.entries.insert_entries.Goals as goal
 
 pub loop-index-init : goal.loop-index-init

@@ -1,5 +1,5 @@
 use Rattle.sqlite_trees.specs.Tree.{insert_entry}
-use Rattle.row_writes.proofs.Filling.{HasEdited}
+use Rattle.page_places.proofs.Filling.{HasEdited}
 use Rattle.row_writes.proofs.entries.insert_entries.Given as goal
 
 abbrev pub invariant-loop-index : goal.invariant-loop-index

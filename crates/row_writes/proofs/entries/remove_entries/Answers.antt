@@ -4,8 +4,8 @@ use Rattle.sqlite_pool.specs.Pool.{state}
 use Rattle.sqlite_pool.specs.StoredLaws.{Keeps-refl, Keeps-trans}
 use Rattle.sqlite_trees.specs.Tree.{remove_entry}
 use Rattle.page_files.proofs.Causes.{fails_later}
-use Rattle.row_writes.specs.Entries.{with_entries}
-use Rattle.row_writes.proofs.Filling.{all_edited, next_index, none_edited, one_more}
+use Rattle.page_places.specs.Entries.{with_entries}
+use Rattle.page_places.proofs.Filling.{all_edited, next_index, none_edited, one_more}
 use Rattle.row_writes.proofs.entries.remove_entries.Goals as goal
 
 pub loop-index-init : goal.loop-index-init

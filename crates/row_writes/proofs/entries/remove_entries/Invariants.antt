@@ -1,5 +1,5 @@
 use Rattle.sqlite_trees.specs.Tree.{remove_entry}
-use Rattle.row_writes.proofs.Filling.{HasEdited}
+use Rattle.page_places.proofs.Filling.{HasEdited}
 use Rattle.row_writes.proofs.entries.remove_entries.Given as goal
 
 abbrev pub invariant-loop-index : goal.invariant-loop-index

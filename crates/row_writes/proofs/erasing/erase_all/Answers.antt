@@ -5,10 +5,10 @@ use Rattle.sqlite_pool.specs.Pool.{state}
 use Rattle.sqlite_pool.specs.StoredLaws.{Keeps-refl, Keeps-trans}
 use Rattle.sqlite_rules.specs.Edit.{without_all}
 use Rattle.sqlite_trees.specs.Tree.{without_rowid}
-use Rattle.row_writes.specs.Changes.{HasRows}
+use Rattle.page_places.specs.Changes.{HasRows}
 use Rattle.row_writes.proofs.Erased.{one_erased, shows_next}
-use Rattle.row_writes.proofs.Filling.{changes_later}
-use Rattle.row_writes.proofs.Outcomes.{unchanged}
+use Rattle.page_places.proofs.Filling.{changes_later}
+use Rattle.page_places.proofs.Outcomes.{unchanged}
 use Rattle.row_writes.proofs.erasing.erase_all.Goals as goal
 
 pub loop-rowid-init : goal.loop-rowid-init

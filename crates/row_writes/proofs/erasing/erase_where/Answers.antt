@@ -3,11 +3,11 @@ use Rattle.std.proofs.lemmas.Result.{err_from_is_err_and}
 use Rattle.std.specs.Prelude.{⊤}
 use Rattle.sqlite_pool.specs.StoredLaws.{Keeps-trans}
 use Rattle.page_files.proofs.Steps.{writes_after}
-use Rattle.row_writes.specs.Changes.{HasRows}
-use Rattle.row_writes.proofs.Changed.{table_shaped}
+use Rattle.page_places.specs.Changes.{HasRows}
+use Rattle.page_places.proofs.Changed.{table_shaped}
 use Rattle.row_writes.proofs.Erased.{picked_left}
-use Rattle.row_writes.proofs.Filling.{changes_later}
-use Rattle.row_writes.proofs.Outcomes.{match_result}
+use Rattle.page_places.proofs.Filling.{changes_later}
+use Rattle.page_places.proofs.Outcomes.{match_result}
 use Rattle.row_writes.proofs.erasing.erase_where.Goals as goal
 
 pub returns-in_err-rowids-clause-done : goal.returns-in_err-rowids-clause-done

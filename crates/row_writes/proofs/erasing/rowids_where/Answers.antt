@@ -2,7 +2,7 @@ use Rattle.std.proofs.Common.{◌≡◌, refl, subst, filter, inl, inr}
 use Rattle.page_rows.proofs.FileTables.{all_shown_from_least}
 use Rattle.page_files.proofs.Causes.{fails_to_read}
 use Rattle.row_writes.specs.Tests.{rowids_of}
-use Rattle.row_writes.proofs.Outcomes.{table_shows}
+use Rattle.page_places.proofs.Outcomes.{table_shows}
 use Rattle.row_writes.proofs.erasing.rowids_where.Goals as goal
 
 pub returns-in-Ok-clause-done : goal.returns-in-Ok-clause-done

@@ -1,7 +1,7 @@
 use Rattle.std.proofs.Common.{arith, drop, refl, sym, subst, inl, inr}
 use Rattle.std.proofs.lemmas.List.{length-drop}
 use Rattle.sqlite_record.proofs.StrictLemmas.{IsRecord-written}
-use Rattle.row_writes.specs.Causes.{IsRefused}
+use Rattle.page_places.specs.Causes.{IsRefused}
 use Rattle.row_writes.proofs.records.write_record.Goals as goal
 
 pub returns-in-Ok-clause-strict : goal.returns-in-Ok-clause-strict

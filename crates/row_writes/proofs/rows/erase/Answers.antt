@@ -12,10 +12,10 @@ use Rattle.page_files.specs.Held.{Writes}
 use Rattle.page_files.specs.Trees.{trees_of}
 use Rattle.page_files.proofs.Causes.{fails_later, fails_to_read}
 use Rattle.page_files.proofs.Steps.{writes_after}
-use Rattle.row_writes.specs.Entries.{with_entries}
-use Rattle.row_writes.specs.Places.{indexes_of}
-use Rattle.row_writes.proofs.Filling.{changes_later}
-use Rattle.row_writes.proofs.Outcomes.{erased, match_result, none_erased, table_shows}
+use Rattle.page_places.specs.Entries.{with_entries}
+use Rattle.page_places.specs.Places.{indexes_of}
+use Rattle.page_places.proofs.Filling.{changes_later}
+use Rattle.page_places.proofs.Outcomes.{erased, match_result, none_erased, table_shows}
 use Rattle.row_writes.proofs.rows.erase.Goals as goal
 
 pub returns-in_err-find_row-clause-done : goal.returns-in_err-find_row-clause-done

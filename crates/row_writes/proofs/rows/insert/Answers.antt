@@ -9,11 +9,11 @@ use Rattle.sqlite_trees.specs.View.{IsStorable, IsStorableRow}
 use Rattle.sqlite_value.specs.declared.value.Value.TheVariants.{Int}
 use Rattle.sqlite_value.specs.Order.{Row}
 use Rattle.page_files.specs.Held.{Writes}
-use Rattle.row_writes.specs.Changes.{AreStorable}
-use Rattle.row_writes.specs.Entries.{with_entries}
-use Rattle.row_writes.specs.Places.{indexes_of}
-use Rattle.row_writes.proofs.Filling.{changes_later, refused_fails}
-use Rattle.row_writes.proofs.Outcomes.{as_given, inserted, match_result}
+use Rattle.page_places.specs.Changes.{AreStorable}
+use Rattle.page_places.specs.Entries.{with_entries}
+use Rattle.page_places.specs.Places.{indexes_of}
+use Rattle.page_places.proofs.Filling.{changes_later, refused_fails}
+use Rattle.page_places.proofs.Outcomes.{as_given, inserted, match_result}
 use Rattle.row_writes.proofs.rows.insert.Goals as goal
 
 pub returns-in_err-row-clause-keeps : goal.returns-in_err-row-clause-keeps

@@ -9,8 +9,8 @@ use Rattle.sqlite_trees.specs.View.{IsStorable, IsStorableRow}
 use Rattle.sqlite_value.specs.declared.value.Value.TheVariants.{Int}
 use Rattle.sqlite_value.specs.Order.{Row}
 use Rattle.page_files.specs.Held.{Writes}
-use Rattle.row_writes.proofs.Filling.{refused_fails}
-use Rattle.row_writes.proofs.Outcomes.{as_given, replaced}
+use Rattle.page_places.proofs.Filling.{refused_fails}
+use Rattle.page_places.proofs.Outcomes.{as_given, replaced}
 use Rattle.row_writes.proofs.rows.replace.Goals as goal
 
 pub returns-in_err-row-clause-keeps : goal.returns-in_err-row-clause-keeps

@@ -19,14 +19,14 @@ use Rattle.page_files.proofs.Causes.{fails_later, fails_to_read}
 use Rattle.page_files.proofs.Standing.{index_in, tree_in}
 use Rattle.page_files.proofs.Steps.{writes_after}
 use Rattle.page_rows.specs.Indexes.{begins_with}
-use Rattle.row_writes.specs.Changes.{HasRows}
-use Rattle.row_writes.specs.Entries.{with_entries}
-use Rattle.row_writes.specs.Places.{indexes_of}
+use Rattle.page_places.specs.Changes.{HasRows}
+use Rattle.page_places.specs.Entries.{with_entries}
+use Rattle.page_places.specs.Places.{indexes_of}
 use Rattle.row_writes.specs.Tests.{rows_left}
 use Rattle.row_writes.specs.Under.{entry_id, is_under, IsLed, out_under}
-use Rattle.row_writes.proofs.Changed.{mine_of, table_shaped}
-use Rattle.row_writes.proofs.Filling.{changes_later}
-use Rattle.row_writes.proofs.Outcomes.{match_result}
+use Rattle.page_places.proofs.Changed.{mine_of, table_shaped}
+use Rattle.page_places.proofs.Filling.{changes_later}
+use Rattle.page_places.proofs.Outcomes.{match_result}
 use Rattle.row_writes.proofs.RowsUnder.{all_led, erased_under, find_fails, first_index, no_index, rows_out, some_from}
 use Rattle.row_writes.proofs.under.erase_under.Goals as goal
 

@@ -1,6 +1,6 @@
 use Rattle.std.proofs.Common.{[]}
 use Rattle.row_writes.specs.Under.{out_under}
-use Rattle.row_writes.proofs.Filling.{HasEdited}
+use Rattle.page_places.proofs.Filling.{HasEdited}
 use Rattle.row_writes.proofs.under.remove_all_under.Given as goal
 
 abbrev pub invariant-loop-index : goal.invariant-loop-index

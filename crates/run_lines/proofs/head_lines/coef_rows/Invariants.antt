@@ -1,5 +1,5 @@
 use Rattle.std.proofs.Common.{◌≡◌, ◌++◌, map, drop}
-use Rattle.prof_books.specs.Heads.{coef_rows_from}
+use Rattle.run_stores.specs.Heads.{coef_rows_from}
 use Rattle.store_schema.specs.Lines.{coef_row}
 use Rattle.run_lines.proofs.head_lines.coef_rows.Given as goal
 

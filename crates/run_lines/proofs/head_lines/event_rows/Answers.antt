@@ -4,7 +4,7 @@ use borrow.Author.Count.{below_more}
 use Rattle.cg_formulas.specs.declared.heads.FileHead.{FileHead}
 use Rattle.cost_rows.specs.Content.{Content}
 use Rattle.plain_tables.specs.Tables.{EventRow}
-use Rattle.prof_books.specs.Heads.{event_row_of, event_rows_from, ColumnFits}
+use Rattle.run_stores.specs.Heads.{event_row_of, event_rows_from, ColumnFits}
 use Rattle.run_lines.specs.Sums.{AllFit}
 use Rattle.store_schema.specs.Lines.{event_row}
 use Rattle.run_lines.proofs.Refusals.{refused_on, refused_memory}

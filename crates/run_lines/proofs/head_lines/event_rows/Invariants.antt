@@ -1,7 +1,7 @@
 use Rattle.std.proofs.Common.{◌≡◌, ◌++◌, ◌<◌, ℕ, map, drop, length}
 use Rattle.cost_rows.specs.Content.{Content}
 use Rattle.cost_rows.specs.Totals.{AreTotals}
-use Rattle.prof_books.specs.Heads.{event_rows, event_rows_from, ColumnFits}
+use Rattle.run_stores.specs.Heads.{event_rows, event_rows_from, ColumnFits}
 use Rattle.store_schema.specs.Lines.{event_row}
 use Rattle.run_lines.proofs.head_lines.event_rows.Given as goal
 

@@ -1,5 +1,5 @@
 use Rattle.std.proofs.Common.{◌≡◌, ◌++◌, map, drop}
-use Rattle.prof_books.specs.Heads.{coef_rows_at}
+use Rattle.run_stores.specs.Heads.{coef_rows_at}
 use Rattle.store_schema.specs.Lines.{coef_row}
 use Rattle.run_lines.proofs.head_lines.push_coefs.Given as goal
 

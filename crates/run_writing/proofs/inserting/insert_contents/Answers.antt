@@ -6,7 +6,7 @@ use Rattle.cost_rows.specs.Rows.{content_of}
 use Rattle.plain_tables.specs.Changes.{with_cells, with_calls, with_stacks}
 use Rattle.plain_tables.specs.Files.{all_named, numbers_in}
 use Rattle.plain_tables.specs.Tables.{RunRow}
-use Rattle.prof_books.specs.Files.{cell_rows, call_rows, stack_rows, with_rows}
+use Rattle.run_stores.specs.Files.{cell_rows, call_rows, stack_rows, with_rows}
 use Rattle.store_schema.specs.Steps.{IsAbove}
 use Rattle.store_schema.proofs.Within.{both, writes_same, writes_then, writes_asking, was_faithful}
 use Rattle.run_lines.specs.Runs.{with_head_of}

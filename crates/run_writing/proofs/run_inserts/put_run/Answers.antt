@@ -7,7 +7,7 @@ use Rattle.store_schema.specs.Schema.{schema_two}
 use Rattle.plain_tables.specs.Tables.{Tables}
 use Rattle.store_schema.specs.Tables.{Holds}
 use Rattle.sqlite.specs.Held.{state}
-use Rattle.prof_books.specs.Runs.{with_file}
+use Rattle.run_stores.specs.BookRuns.{with_file}
 use Rattle.prof_store.proofs.HeldDigests.{taken}
 use Rattle.prof_store.proofs.Members.{kit_has}
 use Rattle.prof_store.proofs.Reading.{on_ok}

@@ -1,6 +1,6 @@
 use Rattle.std.proofs.Common.{◌≡◌, [], ◌++◌, subst, sym, ap, ◌∙◌, rules}
 use Rattle.selected_runs.specs.Counted.{AreCounted}
-use Rattle.store_histories.proofs.Questions.{if_ok_so}
+use Rattle.histories.proofs.Questions.{if_ok_so}
 use Rattle.selected_runs.proofs.CountedLemmas.{counted_added}
 use Rattle.selected_runs.proofs.counting.count_runs.Goals as goal
 

@@ -1,4 +1,4 @@
-use Rattle.store_histories.proofs.Names.{group_utf8}
+use Rattle.histories.proofs.Names.{group_utf8}
 use Rattle.selected_runs.proofs.selecting.name_text.Goals as goal
 
 pub returns-in-Err-clause-named : goal.returns-in-Err-clause-named

@@ -2,7 +2,7 @@ use Rattle.std.proofs.Common.{◌≡◌, Ok, Err, Some, None, refl, subst, rules
 use Rattle.requests.specs.Plain.{plain_selection}
 use Rattle.report_texts.specs.Functions.{function_spot}
 use Rattle.store_calls.specs.FunctionCalls.{IsCallsText}
-use Rattle.store_histories.proofs.Questions.{asked_once}
+use Rattle.histories.proofs.Questions.{asked_once}
 use Rattle.selected_runs.proofs.AskLemmas.{asked_twice}
 use Rattle.store_calls.proofs.FunctionLemmas.{calls_are_expected}
 use Rattle.store_calls.proofs.calling.calls_answer.Goals as goal

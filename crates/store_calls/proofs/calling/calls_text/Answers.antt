@@ -1,6 +1,6 @@
 use Rattle.std.proofs.Common.{subst}
 use Rattle.run_stores.proofs.Calls.{asked_reads, asked_reads_yet}
-use Rattle.store_histories.proofs.Questions.{if_ok_so}
+use Rattle.histories.proofs.Questions.{if_ok_so}
 use Rattle.store_calls.specs.FunctionCalls.{AreTakenFrom, IsCallsText}
 use Rattle.store_calls.specs.KeptCalls.{IsAsked, kept_of, spot_asked, taken_named}
 use Rattle.store_calls.proofs.FunctionLemmas.{calls_added, text_of_taken}

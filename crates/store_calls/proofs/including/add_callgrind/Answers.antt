@@ -2,10 +2,10 @@ use Rattle.std.proofs.Common.{map, fold, refl, subst, ap, ◌++◌, ◌∙◌}
 use Rattle.run_stores.proofs.Calls.{asked_reads_yet}
 use Rattle.run_stores.specs.Names.{named_call}
 use Rattle.plain_tables.specs.RunRows.{calls_in, cells_in}
-use Rattle.prof_books.specs.Book.{cell_held}
+use Rattle.run_stores.specs.Book.{cell_held}
 use Rattle.store_calls.specs.InclusiveParts.{Counting, AreHeld, costs_named, sums_in, with_call_row}
 use Rattle.store_calls.specs.InclusiveRuns.{call_rows, self_rows}
-use Rattle.named_rows.proofs.NamedLemmas.{parts_named}
+use Rattle.number_sums.proofs.NamedRowLemmas.{parts_named}
 use Rattle.store_calls.proofs.InclusiveLemmas.{both_taken}
 use Rattle.store_calls.proofs.including.add_callgrind.Goals as goal
 

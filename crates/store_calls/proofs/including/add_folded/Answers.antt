@@ -1,6 +1,6 @@
 use Rattle.std.proofs.Common.{map, refl, subst, ap, ◌∙◌}
 use Rattle.report_texts.specs.Inclusive.{OfStack}
-use Rattle.prof_books.specs.Book.{stacks_held}
+use Rattle.run_stores.specs.Book.{stacks_held}
 use Rattle.store_calls.specs.InclusiveParts.{Counting, AreHeld, costs_named, sums_in}
 use Rattle.store_calls.proofs.InclusiveLemmas.{stacks_taken}
 use Rattle.store_calls.proofs.including.add_folded.Goals as goal

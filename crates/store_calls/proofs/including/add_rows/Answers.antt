@@ -1,6 +1,6 @@
 use Rattle.profile_records.specs.declared.kinds.Kind.TheVariants.{Callgrind, Folded}
 use Rattle.run_stores.proofs.Calls.{asked_reads}
-use Rattle.store_histories.proofs.Questions.{if_ok_so}
+use Rattle.histories.proofs.Questions.{if_ok_so}
 use Rattle.store_calls.proofs.InclusiveLemmas.{kind_added}
 use Rattle.store_calls.proofs.including.add_rows.Goals as goal
 

@@ -1,6 +1,6 @@
 use Rattle.std.proofs.Common.{subst}
 use Rattle.run_stores.proofs.Calls.{asked_reads_yet}
-use Rattle.store_histories.proofs.Questions.{if_ok_so}
+use Rattle.histories.proofs.Questions.{if_ok_so}
 use Rattle.store_calls.specs.InclusiveParts.{PartSums, sums_in}
 use Rattle.store_calls.specs.InclusiveRuns.{AddsHeld, AreRowsOfRuns}
 use Rattle.store_calls.proofs.InclusiveLemmas.{rows_added, text_told}

@@ -1,7 +1,7 @@
 use Rattle.std.proofs.Common.{false, fold, ap, ◌∙◌}
 use Rattle.run_stores.proofs.Calls.{asked_reads_yet}
 use Rattle.plain_tables.specs.RunRows.{cells_in}
-use Rattle.prof_books.specs.Book.{cells_held, stacks_held}
+use Rattle.run_stores.specs.Book.{cells_held, stacks_held}
 use Rattle.store_calls.specs.FunctionCalls.{is_in_cells}
 use Rattle.store_calls.specs.KeptCalls.{spot_asked, with_stack_sought}
 use Rattle.store_calls.proofs.KeptLemmas.{cells_sought, stacks_sought}

@@ -1,5 +1,5 @@
 use Rattle.std.proofs.Common.{false}
-use Rattle.store_histories.proofs.Questions.{if_ok_so}
+use Rattle.histories.proofs.Questions.{if_ok_so}
 use Rattle.store_calls.specs.FunctionCalls.{is_in_rows}
 use Rattle.store_calls.specs.KeptCalls.{spot_asked}
 use Rattle.store_calls.proofs.FunctionLemmas.{seen_added}

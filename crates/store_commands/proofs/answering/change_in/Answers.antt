@@ -4,10 +4,10 @@ use Rattle.plain_tables.specs.Labels.{IsGroupName}
 use Rattle.histories.specs.Legal.{IsLegal}
 use Rattle.histories.specs.declared.answers.Answer.TheVariants.{Refused}
 use Rattle.histories.specs.Representation.{TablesRepresent}
-use Rattle.store_histories.specs.Answered.{Answers, Follows}
-use Rattle.store_histories.specs.FromTables.{WasChangedIn}
-use Rattle.store_histories.proofs.Questions.{or_failed}
-use Rattle.store_histories.proofs.Settled.{closes_for, settled, steps_answer, untouched}
+use Rattle.histories.specs.Answered.{Answers, Follows}
+use Rattle.histories.specs.FromTables.{WasChangedIn}
+use Rattle.histories.proofs.Questions.{or_failed}
+use Rattle.histories.proofs.Settled.{closes_for, settled, steps_answer, untouched}
 use Rattle.store_commands.specs.Changes.{GroupsIn, command_from_change}
 use Rattle.store_commands.proofs.Expectations.{change_form, unnamed_legal}
 use Rattle.store_commands.proofs.answering.change_in.Goals as goal

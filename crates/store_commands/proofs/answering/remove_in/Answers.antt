@@ -1,9 +1,9 @@
 use Rattle.std.proofs.Common.{sym, subst}
 use Rattle.histories.specs.History.{Remove}
-use Rattle.store_histories.specs.Answered.{Answers}
-use Rattle.store_histories.specs.FromTables.{WasChangedIn}
-use Rattle.store_histories.proofs.Questions.{or_failed}
-use Rattle.store_histories.proofs.Settled.{closes_for, settled, steps_answer}
+use Rattle.histories.specs.Answered.{Answers}
+use Rattle.histories.specs.FromTables.{WasChangedIn}
+use Rattle.histories.proofs.Questions.{or_failed}
+use Rattle.histories.proofs.Settled.{closes_for, settled, steps_answer}
 use Rattle.store_commands.specs.Changes.{RemovesIn}
 use Rattle.store_commands.proofs.answering.remove_in.Goals as goal
 

@@ -3,11 +3,11 @@ use Rattle.std.proofs.Common.{◌≡◌, true, false, None, sym, ap, ◌∙◌, 
 use Rattle.run_stores.proofs.Calls.{asked_stands, changed_asked, shut_answered, shut_asked}
 use Rattle.histories.specs.declared.answers.Answer.TheVariants.{Done, Refused}
 use Rattle.histories.specs.Representation.{TablesRepresent}
-use Rattle.store_histories.specs.Answered.{Follows}
-use Rattle.store_histories.specs.Refusals.{refused_or}
-use Rattle.store_histories.proofs.After.{steps_after_it, done_after}
-use Rattle.store_histories.proofs.Expected.{was_still}
-use Rattle.store_histories.proofs.Settled.{steps_err}
+use Rattle.histories.specs.Answered.{Follows}
+use Rattle.histories.specs.Refusals.{refused_or}
+use Rattle.histories.proofs.After.{steps_after_it, done_after}
+use Rattle.histories.proofs.ExpectedLeft.{was_still}
+use Rattle.histories.proofs.Settled.{steps_err}
 use Rattle.store_commands.specs.Changes.{changed, command_from_change, refusal_for}
 use Rattle.store_commands.proofs.Expectations.{change_form, change_expected, changed_in, done_in, expected_if_free, refused_in, stays_in, tell_changed}
 use Rattle.store_commands.proofs.changes.change_group.Goals as goal

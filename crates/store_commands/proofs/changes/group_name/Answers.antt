@@ -1,4 +1,4 @@
-use Rattle.store_histories.proofs.Names.{group_utf8}
+use Rattle.histories.proofs.Names.{group_utf8}
 use Rattle.store_commands.proofs.changes.group_name.Goals as goal
 
 pub returns-in-Err : goal.returns-in-Err

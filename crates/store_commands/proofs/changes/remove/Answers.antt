@@ -10,11 +10,11 @@ use Rattle.histories.specs.declared.answers.Refusal.TheVariants.{NoSuchRun}
 use Rattle.histories.proofs.Steps.{tell_removed}
 use Rattle.histories.proofs.Tells.{tells_run}
 use Rattle.histories.specs.Representation.{TablesRepresent}
-use Rattle.store_histories.specs.Answered.{Follows}
-use Rattle.store_histories.specs.Refusals.{missing_of}
-use Rattle.store_histories.proofs.After.{steps_after_it, done_after}
-use Rattle.store_histories.proofs.Expected.{was_still}
-use Rattle.store_histories.proofs.Settled.{steps_err}
+use Rattle.histories.specs.Answered.{Follows}
+use Rattle.histories.specs.Refusals.{missing_of}
+use Rattle.histories.proofs.After.{steps_after_it, done_after}
+use Rattle.histories.proofs.ExpectedLeft.{was_still}
+use Rattle.histories.proofs.Settled.{steps_err}
 use Rattle.store_commands.proofs.Expectations.{changed_in, done_in, refused_in, remove_expected, expected_if_run, stays_in}
 use Rattle.store_commands.proofs.changes.remove.Goals as goal
 

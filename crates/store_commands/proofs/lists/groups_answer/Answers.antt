@@ -1,5 +1,5 @@
 use Rattle.std.proofs.Common.{refl}
-use Rattle.store_histories.proofs.Questions.{asked_once}
+use Rattle.histories.proofs.Questions.{asked_once}
 use Rattle.store_commands.proofs.ListLemmas.{groups_are_expected}
 use Rattle.store_commands.proofs.lists.groups_answer.Goals as goal
 

@@ -1,7 +1,7 @@
 use Rattle.std.proofs.Common.{◌≡◌, Ok, Err, Some, None, ap, refl, subst, rules}
 use Rattle.requests.specs.Plain.{plain_selection}
-use Rattle.store_histories.specs.FromTables.{text_or_no_name}
-use Rattle.store_histories.proofs.Questions.{asked_once}
+use Rattle.histories.specs.FromTables.{text_or_no_name}
+use Rattle.histories.proofs.Questions.{asked_once}
 use Rattle.selected_runs.proofs.AskLemmas.{asked_twice}
 use Rattle.store_exports.specs.Annotated.{annotated_over}
 use Rattle.store_exports.proofs.AnnotateLemmas.{annotation_is_expected}

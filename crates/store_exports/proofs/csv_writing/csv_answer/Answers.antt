@@ -2,7 +2,7 @@ use Rattle.std.proofs.Common.{ℕ, List, Ok, subst, sym}
 use Rattle.requests.specs.Plain.{plain_selection}
 use Rattle.requests.specs.declared.queries.Query.TheVariants.{Csv}
 use Rattle.histories.specs.declared.answers.Answer.TheVariants.{Text}
-use Rattle.store_histories.specs.Answered.{WasAsked}
+use Rattle.histories.specs.Answered.{WasAsked}
 use Rattle.store_exports.specs.CsvRuns.{IsCsv}
 use Rattle.store_exports.proofs.csv_writing.csv_answer.Goals as goal
 

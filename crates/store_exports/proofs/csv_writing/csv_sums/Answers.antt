@@ -1,6 +1,6 @@
 use Rattle.std.proofs.Common.{◌≡◌, Ok, Err, refl, subst, rules}
 use Rattle.requests.specs.Plain.{plain_selection}
-use Rattle.store_histories.proofs.Questions.{asked_once}
+use Rattle.histories.proofs.Questions.{asked_once}
 use Rattle.selected_runs.proofs.AskLemmas.{asked_twice}
 use Rattle.report_texts.specs.Csv.{csv_text}
 use Rattle.store_exports.specs.CsvRuns.{IsCsvText}

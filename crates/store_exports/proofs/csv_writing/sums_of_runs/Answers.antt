@@ -1,7 +1,7 @@
 use Rattle.std.proofs.Common.{fold, ap, ◌∙◌}
 use Rattle.report_texts.specs.Csv.{with_cells}
 use Rattle.run_stores.proofs.Calls.{asked_reads}
-use Rattle.store_histories.proofs.Questions.{if_ok_so}
+use Rattle.histories.proofs.Questions.{if_ok_so}
 use Rattle.store_exports.proofs.CsvLemmas.{cells_added}
 use Rattle.store_exports.proofs.csv_writing.sums_of_runs.Goals as goal
 

@@ -1,7 +1,7 @@
 use Rattle.std.proofs.Common.{◌≡◌, Ok, Err, ap, refl, subst, rules}
 use Rattle.requests.specs.Plain.{plain_selection}
 use Rattle.histories.specs.declared.answers.Answer.TheVariants.{Text}
-use Rattle.store_histories.proofs.Questions.{asked_once}
+use Rattle.histories.proofs.Questions.{asked_once}
 use Rattle.selected_runs.proofs.AskLemmas.{asked_twice}
 use Rattle.store_exports.specs.FoldedRuns.{folded_over}
 use Rattle.store_exports.proofs.FoldedLemmas.{folded_is_expected}

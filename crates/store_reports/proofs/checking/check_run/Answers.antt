@@ -1,5 +1,5 @@
 use Rattle.run_stores.proofs.Calls.{asked_reads}
-use Rattle.store_histories.proofs.Questions.{if_ok_so}
+use Rattle.histories.proofs.Questions.{if_ok_so}
 use Rattle.store_reports.proofs.checking.check_run.Goals as goal
 
 pub returns-clause-told : goal.returns-clause-told

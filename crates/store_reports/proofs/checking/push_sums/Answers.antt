@@ -3,7 +3,7 @@ use Rattle.std.specs.List.{AllByRecursion}
 use Rattle.report_texts.specs.Verifying.{verified, verify_text}
 use Rattle.plain_tables.specs.RunRows.{cells_in}
 use Rattle.plain_tables.specs.Tables.{NameRow}
-use Rattle.prof_books.specs.Book.{CellIsNamed}
+use Rattle.run_stores.specs.Book.{CellIsNamed}
 use Rattle.run_stores.proofs.Calls.{asked_reads}
 use Rattle.store_reports.specs.CellSums.{AreOfCells}
 use Rattle.store_reports.proofs.checking.push_sums.Goals as goal

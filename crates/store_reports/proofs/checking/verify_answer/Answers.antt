@@ -1,7 +1,7 @@
 use Rattle.std.proofs.Common.{◌≡◌, Ok, Err, refl, subst, rules}
 use Rattle.requests.specs.Plain.{plain_selection}
 use Rattle.store_reports.specs.Checked.{AreChecked}
-use Rattle.store_histories.proofs.Questions.{asked_once}
+use Rattle.histories.proofs.Questions.{asked_once}
 use Rattle.selected_runs.proofs.AskLemmas.{asked_twice}
 use Rattle.store_reports.proofs.CheckLemmas.{verified_is_expected}
 use Rattle.store_reports.proofs.checking.verify_answer.Goals as goal

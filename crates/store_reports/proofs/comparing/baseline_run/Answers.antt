@@ -1,6 +1,6 @@
 use Rattle.std.proofs.Common.{Some, None, refl}
 use Rattle.run_stores.proofs.Calls.{asked_reads}
-use Rattle.store_histories.proofs.Questions.{if_ok_so}
+use Rattle.histories.proofs.Questions.{if_ok_so}
 use Rattle.store_reports.proofs.comparing.baseline_run.Goals as goal
 
 pub returns-in-Some-clause-told : goal.returns-in-Some-clause-told

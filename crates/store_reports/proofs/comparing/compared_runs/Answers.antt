@@ -1,7 +1,7 @@
 use Rattle.std.proofs.Common.{option_map, subst, sym}
 use Rattle.requests.specs.Plain.{plain_selection}
 use Rattle.store_reports.specs.Compared.{AreComparedIn}
-use Rattle.store_histories.proofs.Questions.{if_ok_so}
+use Rattle.histories.proofs.Questions.{if_ok_so}
 use Rattle.store_reports.proofs.comparing.compared_runs.Goals as goal
 
 pub returns-in-Some-clause-told : goal.returns-in-Some-clause-told

@@ -1,7 +1,7 @@
 use Rattle.std.proofs.Common.{ap, ap₂, ◌∙◌}
 use Rattle.run_stores.proofs.Calls.{asked_reads_yet}
 use Rattle.report_texts.specs.Differences.{difference_of, difference_text}
-use Rattle.store_histories.proofs.Questions.{if_ok_so}
+use Rattle.histories.proofs.Questions.{if_ok_so}
 use Rattle.store_reports.specs.Compared.{named_sums}
 use Rattle.store_reports.proofs.MergeLemmas.{key_is, named_costs}
 use Rattle.store_reports.proofs.comparing.difference_text.Goals as goal

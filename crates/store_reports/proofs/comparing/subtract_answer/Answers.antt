@@ -2,7 +2,7 @@ use Rattle.std.proofs.Common.{◌≡◌, true, Ok, Err, option_map, refl, subst�
 use Rattle.requests.specs.Plain.{plain_selection}
 use Rattle.run_stores.proofs.Calls.{asked_of_open, asked_reads}
 use Rattle.store_reports.specs.Compared.{AnswersDifference}
-use Rattle.store_histories.proofs.Questions.{asked_once, if_ok_so}
+use Rattle.histories.proofs.Questions.{asked_once, if_ok_so}
 use Rattle.selected_runs.proofs.AskLemmas.{asked_twice}
 use Rattle.store_reports.proofs.CompareLemmas.{subtracted_is_expected}
 use Rattle.store_reports.proofs.comparing.subtract_answer.Goals as goal

@@ -1,4 +1,4 @@
-use Rattle.store_histories.proofs.Questions.{if_ok_so}
+use Rattle.histories.proofs.Questions.{if_ok_so}
 use Rattle.store_reports.proofs.comparing.text_of_both.Goals as goal
 
 pub returns-clause-told : goal.returns-clause-told

@@ -1,5 +1,5 @@
 use Rattle.std.proofs.Common.{◌≡◌, [], fold, ap, ◌∙◌}
-use Rattle.store_histories.proofs.Questions.{if_ok_so}
+use Rattle.histories.proofs.Questions.{if_ok_so}
 use Rattle.store_reports.specs.Reported.{numbers_from}
 use Rattle.store_reports.proofs.MergeLemmas.{all_steps}
 use Rattle.store_reports.proofs.merging.number_runs.Goals as goal

@@ -2,7 +2,7 @@ use Rattle.std.proofs.Common.{◌≡◌, Ok, Err, ap, refl, subst, rules}
 use Rattle.requests.specs.Plain.{plain_selection}
 use Rattle.histories.specs.declared.answers.Answer.TheVariants.{Text}
 use Rattle.store_reports.specs.Reported.{report_over}
-use Rattle.store_histories.proofs.Questions.{asked_once}
+use Rattle.histories.proofs.Questions.{asked_once}
 use Rattle.selected_runs.proofs.AskLemmas.{asked_twice}
 use Rattle.store_reports.proofs.ByLemmas.{reported_is_expected}
 use Rattle.store_reports.proofs.reporting.by_answer.Goals as goal

@@ -1,7 +1,7 @@
 use Rattle.std.proofs.Common.{[], sym, subst}
 use Rattle.run_stores.specs.Calls.{IsFaithful}
 use Rattle.histories.specs.Requests.{command_read}
-use Rattle.store_histories.specs.Answered.{Answers}
+use Rattle.histories.specs.Answered.{Answers}
 use Rattle.requests.specs.Plain.{plain_command}
 use Rattle.warehouse.specs.Answered.{IsShortFor}
 use Rattle.warehouse.specs.FromTables.{IsFoundOf}

@@ -5,9 +5,9 @@ use Rattle.histories.specs.Legal.{expected_of_query, most_of_source}
 use Rattle.requests.specs.Plain.{plain_selection}
 use Rattle.requests.specs.declared.queries.Query.TheVariants as queries
 use Rattle.histories.proofs.ReadsExpected.{ended_expected}
-use Rattle.store_histories.specs.Answered.{Answers, WasAsked}
-use Rattle.store_histories.specs.FromTables.{OrFailed}
-use Rattle.store_histories.proofs.Questions.{answered_as, or_failed}
+use Rattle.histories.specs.Answered.{Answers, WasAsked}
+use Rattle.histories.specs.FromTables.{OrFailed}
+use Rattle.histories.proofs.Questions.{answered_as, or_failed}
 use Rattle.store_exports.specs.Annotated.{IsAnnotated}
 use Rattle.warehouse.specs.Answered.{IsShort}
 use Rattle.warehouse.proofs.GivenLemmas.{kept_asked, short_for}

@@ -1,9 +1,9 @@
 use Rattle.std.proofs.Common.{sym, subst}
 use Rattle.requests.specs.Plain.{plain_query}
 use Rattle.histories.specs.History.{Ask}
-use Rattle.store_histories.specs.Answered.{Answers}
-use Rattle.store_histories.specs.FromTables.{OrFailed}
-use Rattle.store_histories.proofs.Questions.{or_failed, question_answered}
+use Rattle.histories.specs.Answered.{Answers}
+use Rattle.histories.specs.FromTables.{OrFailed}
+use Rattle.histories.proofs.Questions.{or_failed, question_answered}
 use Rattle.warehouse.specs.Answered.{IsShort}
 use Rattle.warehouse.specs.FromTables.{AnswersIn}
 use Rattle.warehouse.proofs.GivenLemmas.{kept_asked, short_for}

@@ -5,8 +5,8 @@ use Rattle.histories.specs.declared.answers.Answer.TheVariants.{Refused}
 use Rattle.histories.specs.declared.answers.Refusal.TheVariants.{BadName}
 use Rattle.run_stores.proofs.Calls.{changed_none, shut_none}
 use Rattle.histories.specs.Representation.{TablesRepresent}
-use Rattle.store_histories.specs.Answered.{Follows}
-use Rattle.store_histories.proofs.Settled.{untouched, bad_name}
+use Rattle.histories.specs.Answered.{Follows}
+use Rattle.histories.proofs.Settled.{untouched, bad_name}
 use Rattle.warehouse.proofs.answering.import_in.Goals as goal
 
 pub returns-in-None : goal.returns-in-None

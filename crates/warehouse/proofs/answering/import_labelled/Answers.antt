@@ -3,11 +3,11 @@ use Rattle.byte_io.specs.Outcomes.{bytes_of}
 use Rattle.histories.specs.Formats.{today}
 use Rattle.histories.specs.Legal.{expected_of_file}
 use Rattle.histories.specs.History.{Import}
-use Rattle.store_histories.specs.Answered.{Answers}
-use Rattle.store_histories.specs.FromTables.{WasChangedIn}
-use Rattle.store_histories.proofs.Questions.{or_failed}
-use Rattle.store_histories.proofs.Settled.{closes_for, settled, steps_answer}
-use Rattle.run_imports.specs.FromTables.{IsImported}
+use Rattle.histories.specs.Answered.{Answers}
+use Rattle.histories.specs.FromTables.{WasChangedIn}
+use Rattle.histories.proofs.Questions.{or_failed}
+use Rattle.histories.proofs.Settled.{closes_for, settled, steps_answer}
+use Rattle.store_commands.specs.FromTables.{IsImported}
 use Rattle.warehouse.proofs.Unread.{unread_answered}
 use Rattle.warehouse.proofs.answering.import_labelled.Goals as goal
 

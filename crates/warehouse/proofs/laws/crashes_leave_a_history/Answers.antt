@@ -1,4 +1,4 @@
-use Rattle.store_histories.proofs.Left.{left_after, left_standing}
+use Rattle.histories.proofs.Left.{left_after, left_standing}
 use Rattle.warehouse.proofs.laws.crashes_leave_a_history.Goals as goal
 
 pub returns-clause-represents : goal.returns-clause-represents

@@ -1,4 +1,4 @@
-use Rattle.prof_books.specs.Book.{stack_held}
+use Rattle.run_stores.specs.Book.{stack_held}
 use Rattle.store_schema.specs.Lines.{held_stack}
 use Rattle.held_lines.proofs.RowSteps.{comes_more}
 use Rattle.held_lines.proofs.Steps.{on_ok_then}

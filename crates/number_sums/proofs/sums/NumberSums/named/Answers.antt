@@ -3,7 +3,7 @@ use Rattle.std.specs.List.{AllByRecursion}
 use Rattle.std.specs.Result.{IfOk}
 use Rattle.cost_rows.specs.KeySums.{Sums, sums_by, with_row}
 use Rattle.plain_tables.specs.Tables.{NameRow}
-use Rattle.prof_books.specs.Book.{IsHeld}
+use Rattle.run_stores.specs.Book.{IsHeld}
 use Rattle.run_stores.specs.Names.{named_cell}
 use Rattle.number_sums.specs.Named.{AreOf}
 use Rattle.number_sums.specs.Sums.{SumsByNumber, number_rows, numbers_told}

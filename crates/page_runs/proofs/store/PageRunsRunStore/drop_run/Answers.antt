@@ -1,7 +1,7 @@
 use Rattle.std.specs.Prelude.{◌≡◌, true}
 use Rattle.std.proofs.Common.{refl}
 use Rattle.plain_tables.specs.Changes.{has_run, without_run}
-use Rattle.run_order.proofs.Ordered.{without_run_in_order}
+use Rattle.run_stores.proofs.Ordered.{without_run_in_order}
 use Rattle.page_runs.specs.declared.store.PageRuns.{PageRuns}
 use Rattle.page_runs.proofs.Changes.{changed, kept_shut}
 use Rattle.page_runs.proofs.Making.{listed_done}

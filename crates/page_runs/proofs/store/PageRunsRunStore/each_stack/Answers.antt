@@ -1,5 +1,5 @@
 use Rattle.std.proofs.Common.{fold, refl, sym, ap, subst, ◌∙◌}
-use Rattle.prof_books.specs.Book.{stacks_held}
+use Rattle.run_stores.specs.Book.{stacks_held}
 use Rattle.plain_tables.specs.Tables.{StoredStack}
 use Rattle.store_schema.specs.Tables.{stack_columns}
 use Rattle.page_lists.specs.Shown.{ShowsLines}

@@ -3,9 +3,9 @@ use Rattle.std.proofs.Common.{refl, sym}
 use Rattle.cost_rows.specs.Rows.{content_of}
 use Rattle.plain_tables.specs.Sound.{AreSound}
 use Rattle.plain_tables.specs.Tables.{Tables}
-use Rattle.prof_books.specs.Runs.{filed}
-use Rattle.run_order.specs.Order.{AreInOrder}
-use Rattle.run_order.proofs.Ordered.{filed_in_order}
+use Rattle.run_stores.specs.BookRuns.{filed}
+use Rattle.run_stores.specs.Order.{AreInOrder}
+use Rattle.run_stores.proofs.Ordered.{filed_in_order}
 use Rattle.run_stores.specs.Runs.{with_summed}
 use Rattle.page_runs.specs.declared.store.PageRuns.{PageRuns}
 use Rattle.page_runs.proofs.Changes.{changed, kept_shut}

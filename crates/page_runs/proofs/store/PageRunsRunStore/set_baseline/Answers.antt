@@ -1,7 +1,7 @@
 use Rattle.std.specs.Prelude.{⊤}
 use Rattle.std.proofs.Common.{refl}
 use Rattle.plain_tables.specs.Changes.{with_baseline}
-use Rattle.run_order.proofs.Ordered.{with_baseline_in_order}
+use Rattle.run_stores.proofs.Ordered.{with_baseline_in_order}
 use Rattle.page_runs.specs.declared.store.PageRuns.{PageRuns}
 use Rattle.page_runs.proofs.Changes.{changed_any, kept_shut}
 use Rattle.page_runs.proofs.Making.{group_made}

@@ -8,7 +8,7 @@ use Rattle.store_schema.proofs.Means.{runs_plain}
 use Rattle.store_schema.proofs.Lists.{runs_listed, numbered_table}
 use Rattle.prof_store.specs.Entries.{held_columns, entry_columns, first_four}
 use Rattle.run_stores.specs.Entries.{entry_run}
-use Rattle.prof_books.specs.Entries.{HeldRun, held_run}
+use Rattle.run_stores.specs.BookEntries.{HeldRun, held_run}
 use Rattle.run_stores.specs.declared.entries.RunEntry.{RunEntry}
 use Rattle.prof_store.proofs.Listing.{read_permutes, map_injective}
 use Rattle.prof_store.proofs.Reading.{both_ok}

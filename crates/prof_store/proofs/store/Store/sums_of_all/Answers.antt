@@ -7,7 +7,7 @@ use Rattle.store_schema.specs.Schema.{schema_two}
 use Rattle.prof_store.specs.Readings.{RowsSay}
 use Rattle.prof_store.specs.Shown.{shown}
 use Rattle.prof_store.specs.Totals.{AreSums, IsSum, rows_named}
-use Rattle.prof_books.specs.Totals.{held_self, held_calls}
+use Rattle.run_stores.specs.Totals.{held_self, held_calls}
 use Rattle.prof_store.proofs.Listing.{read_on}
 use Rattle.prof_store.proofs.HeldSums.{sums_more}
 use Rattle.prof_store.proofs.Reading.{is_ok_then}

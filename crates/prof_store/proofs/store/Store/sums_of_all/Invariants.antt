@@ -4,7 +4,7 @@ use Rattle.store_schema.specs.Schema.{schema_two}
 use Rattle.plain_tables.specs.Tables.{Tables}
 use Rattle.prof_store.specs.Shown.{shown, IsFaithful, ReadsAs}
 use Rattle.prof_store.specs.Totals.{AreSums}
-use Rattle.prof_books.specs.Totals.{held_self, held_calls}
+use Rattle.run_stores.specs.Totals.{held_self, held_calls}
 use Rattle.prof_store.proofs.store.Store.sums_of_all.Given as goal
 
 -- nothing was changed, and the sums are those of the events so far

@@ -1,6 +1,6 @@
 use Rattle.std.proofs.Common.{◌∙◌, map, ap}
 use Rattle.std.proofs.lemmas.List.{take_all}
-use Rattle.prof_books.specs.Entries.{held_run}
+use Rattle.run_stores.specs.BookEntries.{held_run}
 use Rattle.run_stores.specs.Entries.{entry_run}
 use Rattle.run_lists.specs.Listed.{run_row}
 use Rattle.run_lists.specs.declared.listed.ListedRun.{ListedRun}

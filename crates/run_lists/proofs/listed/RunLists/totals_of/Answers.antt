@@ -1,6 +1,6 @@
 use Rattle.std.proofs.Common.{◌∙◌, ℕ, List, map, sum_by, ap}
 use Rattle.std.proofs.lemmas.List.{take_all}
-use Rattle.prof_books.specs.Totals.{held_self, held_calls}
+use Rattle.run_stores.specs.Totals.{held_self, held_calls}
 use Rattle.plain_tables.specs.Tables.{RunRow}
 use Rattle.run_lists.specs.Listed.{run_row}
 use Rattle.run_lists.specs.Sums.{calls_sum, self_sum}

@@ -2,7 +2,7 @@ use Rattle.std.proofs.Common.{◌≡◌, ℕ, true, ◌∷◌, ◌++◌, ◌+◌
 use Rattle.std.specs.Bool.{⊤}
 use Rattle.std.proofs.lemmas.List.{take_more}
 use Rattle.plain_tables.specs.Changes.{with_calls}
-use Rattle.prof_books.specs.Files.{call_rows_from}
+use Rattle.run_stores.specs.Files.{call_rows_from}
 use Rattle.run_lines.specs.FromRows.{call_of_call, part_line, cost_lines, row_lines}
 use Rattle.run_writing.specs.LineInserts.{more_calls}
 use Rattle.run_writing.specs.Queues.{Queues}

@@ -1,7 +1,7 @@
 use Rattle.std.proofs.Common.{true, take, ◌∷◌}
 use Rattle.store_schema.specs.Lines.{call_row}
 use Rattle.plain_tables.specs.Changes.{with_calls}
-use Rattle.prof_books.specs.Files.{call_rows_from}
+use Rattle.run_stores.specs.Files.{call_rows_from}
 use Rattle.run_lines.specs.FromRows.{call_of_call, part_line}
 use Rattle.run_writing.specs.Queues.{Queues}
 use Rattle.run_writing.proofs.row_lines.ArcRowU32RefSliceU128BecomesRowsStoredCall.queue_lines.Given as goal

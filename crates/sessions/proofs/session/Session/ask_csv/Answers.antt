@@ -3,7 +3,7 @@ use Rattle.run_stores.specs.Calls.{IsFaithful}
 use Rattle.histories.specs.History.{Ask}
 use Rattle.requests.specs.Plain.{plain_selection}
 use Rattle.requests.specs.declared.queries.Query.TheVariants.{Csv}
-use Rattle.store_histories.specs.Answered.{Answers}
+use Rattle.histories.specs.Answered.{Answers}
 use Rattle.sessions.proofs.SessionLemmas.{told}
 use Rattle.sessions.proofs.session.Session.ask_csv.Goals as goal
 

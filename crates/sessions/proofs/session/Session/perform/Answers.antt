@@ -8,7 +8,7 @@ use Rattle.histories.proofs.RequestLemmas.{read_alike}
 use Rattle.sessions.specs.Sessions.{WasPerformed, WasTold}
 use Rattle.sessions.proofs.SessionLemmas.{none_read, told, were_read}
 use Rattle.byte_io.specs.Imported.{WereRead}
-use Rattle.store_histories.specs.Answered.{Answers}
+use Rattle.histories.specs.Answered.{Answers}
 use Rattle.sessions.proofs.session.Session.perform.Goals as goal
 
 pub returns-in-Ask-Csv-clause-answered : goal.returns-in-Ask-Csv-clause-answered

@@ -1,5 +1,5 @@
 use Rattle.std.proofs.Common.{IsTrue, [], ◌∷◌, refl, sym, subst, inr, rules}
-use Rattle.answer_lines.specs.Answers.{line_text, takes_memory}
+use Rattle.warehouse.specs.Answers.{line_text, takes_memory}
 use Rattle.histories.specs.declared.answers.Answer.{Answer}
 use Rattle.histories.specs.declared.answers.Answer.TheVariants.{Refused}
 use Rattle.histories.specs.declared.answers.Refusal.TheVariants.{Memory}

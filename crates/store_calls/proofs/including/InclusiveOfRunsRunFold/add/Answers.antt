@@ -1,5 +1,5 @@
 use Rattle.std.proofs.Common.{Some, sym, ap, ◌∙◌}
-use Rattle.store_histories.proofs.Questions.{if_ok_so}
+use Rattle.histories.proofs.Questions.{if_ok_so}
 use Rattle.store_calls.specs.InclusiveParts.{sums_in}
 use Rattle.store_calls.proofs.InclusiveLemmas.{run_added}
 use Rattle.store_calls.proofs.including.InclusiveOfRunsRunFold.add.Goals as goal

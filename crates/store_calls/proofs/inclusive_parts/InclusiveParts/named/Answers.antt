@@ -1,7 +1,7 @@
 use Rattle.std.proofs.Common.{map, ap, subst, ◌∙◌}
 use Rattle.std.specs.List.{AllByRecursion}
 use Rattle.cost_rows.specs.KeySums.{sums_by}
-use Rattle.prof_books.specs.Book.{IsHeld}
+use Rattle.run_stores.specs.Book.{IsHeld}
 use Rattle.run_stores.specs.Names.{named_cell}
 use Rattle.number_sums.specs.Sums.{number_rows, numbers_told}
 use Rattle.store_calls.proofs.PartLemmas.{parts_added}

@@ -1,7 +1,7 @@
 use Rattle.std.proofs.Common.{[], refl, rules, sym, subst}
 use Rattle.histories.specs.Requests.{command_read}
 use Rattle.run_stores.specs.Calls.{IsFaithful}
-use Rattle.store_histories.specs.Answered.{Answers}
+use Rattle.histories.specs.Answered.{Answers}
 use Rattle.requests.specs.Plain.{plain_command}
 use Rattle.warehouse.specs.Answered.{IsShortFor, ReadsNone, Says}
 use Rattle.warehouse.specs.FromTables.{IsFoundIn}

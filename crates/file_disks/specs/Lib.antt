@@ -1,0 +1,6 @@
+pub mod Either
+pub mod File
+pub mod Note
+pub mod ReadOnly
+pub mod Shown
+pub mod Untouched

@@ -1,0 +1,26 @@
+// Files of one kind, taken for files of either.
+ghost use Rattle.std.specs.Prelude.{◌≡◌};
+ghost use Rattle.file_disks.specs.Either.{are_one, are_other};
+
+use crate::either::EitherDisk;
+use sqlite_disk::{Disk, Files};
+
+/// Files of the first kind.
+pub fn as_one<A: Disk, B: Disk>(files: Files<A>) -> Files<EitherDisk<A, B>>
+    ensures { result ≡ are_one files }
+{
+    Files {
+        log: EitherDisk::One(files.log),
+        db: EitherDisk::One(files.db),
+    }
+}
+
+/// Files of the second kind.
+pub fn as_other<A: Disk, B: Disk>(files: Files<B>) -> Files<EitherDisk<A, B>>
+    ensures { result ≡ are_other files }
+{
+    Files {
+        log: EitherDisk::Other(files.log),
+        db: EitherDisk::Other(files.db),
+    }
+}

@@ -1,3 +1,0 @@
-mod Plain
-mod Handing
-mod Keeping

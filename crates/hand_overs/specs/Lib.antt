@@ -1,2 +1,0 @@
-pub mod Databases
-pub mod Pages

@@ -1,2 +1,0 @@
-pub mod NamedLemmas
-pub mod Walks

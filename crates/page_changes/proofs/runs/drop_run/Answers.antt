@@ -1,0 +1,113 @@
+use Rattle.std.proofs.Common.{inr, refl, sym, ◌∙◌, true≢false}
+use Rattle.std.proofs.lemmas.Result.{err_from_is_err_and}
+use Rattle.sqlite_pool.specs.StoredLaws.{Keeps-trans}
+use Rattle.page_files.proofs.Reading.{rests_after}
+use Rattle.page_files.proofs.Steps.{begins}
+use Rattle.page_places.proofs.Outcomes.{match_result}
+use Rattle.page_places.proofs.Failing.{reading_fails, store_fails_later}
+use Rattle.page_places.proofs.Rooting.{store_resting}
+use Rattle.page_changes.specs.Removed.{CanDrop}
+use Rattle.page_changes.proofs.runs.drop_run.Goals as goal
+
+pub returns-in_err-drop_events-clause-keeps : goal.returns-in_err-drop_events-clause-keeps
+returns-in_err-drop_events-clause-keeps g c = Keeps-trans _ _ _ c.find_roots.ensures.reads.keeps c.drop_events.ensures.keeps
+
+pub returns-in_err-drop_costs-clause-keeps : goal.returns-in_err-drop_costs-clause-keeps
+returns-in_err-drop_costs-clause-keeps g c = Keeps-trans _ _ _ (Keeps-trans _ _ _ c.find_roots.ensures.reads.keeps c.drop_events.ensures.keeps) c.drop_costs.ensures.keeps
+
+pub returns-in_err-drop_members-clause-keeps : goal.returns-in_err-drop_members-clause-keeps
+returns-in_err-drop_members-clause-keeps g c = Keeps-trans _ _ _ (Keeps-trans _ _ _ (Keeps-trans _ _ _ c.find_roots.ensures.reads.keeps c.drop_events.ensures.keeps) c.drop_costs.ensures.keeps) c.drop_members.ensures.keeps
+
+pub returns-in_err-clear_baselines-clause-keeps : goal.returns-in_err-clear_baselines-clause-keeps
+returns-in_err-clear_baselines-clause-keeps g c =
+    Keeps-trans _ _ _ (Keeps-trans _ _ _ (Keeps-trans _ _ _ (Keeps-trans _ _ _ c.find_roots.ensures.reads.keeps c.drop_events.ensures.keeps) c.drop_costs.ensures.keeps) c.drop_members.ensures.keeps) c.clear_baselines.ensures.keeps
+
+pub returns-clause-keeps : goal.returns-clause-keeps
+returns-clause-keeps g c =
+    Keeps-trans _ _ _ (Keeps-trans _ _ _ (Keeps-trans _ _ _ (Keeps-trans _ _ _ (Keeps-trans _ _ _ c.find_roots.ensures.reads.keeps c.drop_events.ensures.keeps) c.drop_costs.ensures.keeps) c.drop_members.ensures.keeps) c.clear_baselines.ensures.keeps) c.drop_its_row.ensures.keeps
+
+pub returns-then-not-has_run-clause-done : goal.returns-then-not-has_run-clause-done
+returns-then-not-has_run-clause-done g c faithful = λ wanted known db t rests holds listed.
+    inr (refl, λ can. true≢false (sym can.held ∙ sym (c.if-not-has_run.ensures.told t listed)))
+
+pub returns-in_err-roots-clause-done : goal.returns-in_err-roots-clause-done
+returns-in_err-roots-clause-done g c faithful = λ wanted known db t rests holds listed.
+    let old = c.args.file.now in
+    let new = c.find_roots.new.file in
+    let p = err_from_is_err_and c.from_residual.result c.from_residual.ensures.1 in
+    let why = c.in_err-roots.ensures.failed faithful t db known (store_resting old t db known wanted rests holds) in
+    rw (p.1, p.2) (reading_fails old new why.0 _ why.2 c.find_roots.ensures.reads.keeps rests.clean.is_open faithful why.1)
+
+pub returns-in_err-drop_events-clause-done : goal.returns-in_err-drop_events-clause-done
+returns-in_err-drop_events-clause-done g c faithful = λ wanted known db t rests holds listed.
+    let old = c.args.file.now in
+    let read = c.find_roots.new.file in
+    let before = c.drop_events.ensures.keeps.stays.clean faithful in
+    let roots = c.in_ok-roots.ensures.found before t db known (store_resting old t db known wanted rests holds) in
+    let w = begins read (rests_after old read c.find_roots.ensures.reads before c.in_ok-roots.ensures.usable rests) in
+    let p = err_from_is_err_and c.from_residual-in_err-drop_events.result c.from_residual-in_err-drop_events.ensures.1 in
+    rw (p.1, p.2) (store_fails_later old read c.drop_events.new.file _ c.find_roots.ensures.reads.keeps (λ _. tt) (c.in_err-drop_events.ensures.done faithful wanted known db db t w holds roots))
+
+pub returns-in_err-drop_costs-clause-done : goal.returns-in_err-drop_costs-clause-done
+returns-in_err-drop_costs-clause-done g c faithful = λ wanted known db t rests holds listed.
+    let old = c.args.file.now in
+    let read = c.find_roots.new.file in
+    let after_one = c.drop_costs.ensures.keeps.stays.clean faithful in
+    let before = c.drop_events.ensures.keeps.stays.clean after_one in
+    let roots = c.in_ok-roots.ensures.found before t db known (store_resting old t db known wanted rests holds) in
+    let w = begins read (rests_after old read c.find_roots.ensures.reads before c.in_ok-roots.ensures.usable rests) in
+    let events = c.in_ok-drop_events.ensures.done after_one wanted known db db t w holds roots in
+    let keeps = Keeps-trans _ _ _ c.find_roots.ensures.reads.keeps c.drop_events.ensures.keeps in
+    let p = err_from_is_err_and c.from_residual-in_err-drop_costs.result c.from_residual-in_err-drop_costs.ensures.1 in
+    rw (p.1, p.2) (store_fails_later old c.drop_events.new.file c.drop_costs.new.file _ keeps (λ _. tt) (c.in_err-drop_costs.ensures.done faithful wanted known db events.0 _ events.1 events.2 roots))
+
+pub returns-in_err-drop_members-clause-done : goal.returns-in_err-drop_members-clause-done
+returns-in_err-drop_members-clause-done g c faithful = λ wanted known db t rests holds listed.
+    let old = c.args.file.now in
+    let read = c.find_roots.new.file in
+    let after_two = c.drop_members.ensures.keeps.stays.clean faithful in
+    let after_one = c.drop_costs.ensures.keeps.stays.clean after_two in
+    let before = c.drop_events.ensures.keeps.stays.clean after_one in
+    let roots = c.in_ok-roots.ensures.found before t db known (store_resting old t db known wanted rests holds) in
+    let w = begins read (rests_after old read c.find_roots.ensures.reads before c.in_ok-roots.ensures.usable rests) in
+    let events = c.in_ok-drop_events.ensures.done after_one wanted known db db t w holds roots in
+    let costs = c.in_ok-drop_costs.ensures.done after_two wanted known db events.0 _ events.1 events.2 roots in
+    let keeps = Keeps-trans _ _ _ (Keeps-trans _ _ _ c.find_roots.ensures.reads.keeps c.drop_events.ensures.keeps) c.drop_costs.ensures.keeps in
+    let p = err_from_is_err_and c.from_residual-in_err-drop_members.result c.from_residual-in_err-drop_members.ensures.1 in
+    rw (p.1, p.2) (store_fails_later old c.drop_costs.new.file c.drop_members.new.file _ keeps (λ _. tt) (c.in_err-drop_members.ensures.done faithful wanted known db costs.0 _ costs.1 costs.2 roots))
+
+pub returns-in_err-clear_baselines-clause-done : goal.returns-in_err-clear_baselines-clause-done
+returns-in_err-clear_baselines-clause-done g c faithful = λ wanted known db t rests holds listed.
+    let old = c.args.file.now in
+    let read = c.find_roots.new.file in
+    let after_three = c.clear_baselines.ensures.keeps.stays.clean faithful in
+    let after_two = c.drop_members.ensures.keeps.stays.clean after_three in
+    let after_one = c.drop_costs.ensures.keeps.stays.clean after_two in
+    let before = c.drop_events.ensures.keeps.stays.clean after_one in
+    let roots = c.in_ok-roots.ensures.found before t db known (store_resting old t db known wanted rests holds) in
+    let w = begins read (rests_after old read c.find_roots.ensures.reads before c.in_ok-roots.ensures.usable rests) in
+    let events = c.in_ok-drop_events.ensures.done after_one wanted known db db t w holds roots in
+    let costs = c.in_ok-drop_costs.ensures.done after_two wanted known db events.0 _ events.1 events.2 roots in
+    let members = c.in_ok-drop_members.ensures.done after_three wanted known db costs.0 _ costs.1 costs.2 roots in
+    let keeps = Keeps-trans _ _ _ (Keeps-trans _ _ _ (Keeps-trans _ _ _ c.find_roots.ensures.reads.keeps c.drop_events.ensures.keeps) c.drop_costs.ensures.keeps) c.drop_members.ensures.keeps in
+    let p = err_from_is_err_and c.from_residual-in_err-clear_baselines.result c.from_residual-in_err-clear_baselines.ensures.1 in
+    rw (p.1, p.2) (store_fails_later old c.drop_members.new.file c.clear_baselines.new.file _ keeps (λ (can : CanDrop c.args.run t). can.unbased) (c.in_err-clear_baselines.ensures.done faithful wanted known db members.0 _ members.1 members.2 roots))
+
+pub returns-clause-done : goal.returns-clause-done
+returns-clause-done g c faithful = λ wanted known db t rests holds listed.
+    let old = c.args.file.now in
+    let read = c.find_roots.new.file in
+    let after_four = c.drop_its_row.ensures.keeps.stays.clean faithful in
+    let after_three = c.clear_baselines.ensures.keeps.stays.clean after_four in
+    let after_two = c.drop_members.ensures.keeps.stays.clean after_three in
+    let after_one = c.drop_costs.ensures.keeps.stays.clean after_two in
+    let before = c.drop_events.ensures.keeps.stays.clean after_one in
+    let roots = c.in_ok-roots.ensures.found before t db known (store_resting old t db known wanted rests holds) in
+    let w = begins read (rests_after old read c.find_roots.ensures.reads before c.in_ok-roots.ensures.usable rests) in
+    let events = c.in_ok-drop_events.ensures.done after_one wanted known db db t w holds roots in
+    let costs = c.in_ok-drop_costs.ensures.done after_two wanted known db events.0 _ events.1 events.2 roots in
+    let members = c.in_ok-drop_members.ensures.done after_three wanted known db costs.0 _ costs.1 costs.2 roots in
+    let cleared = c.in_ok-clear_baselines.ensures.done after_four wanted known db members.0 _ members.1 members.2 roots in
+    let keeps = Keeps-trans _ _ _ (Keeps-trans _ _ _ (Keeps-trans _ _ _ (Keeps-trans _ _ _ c.find_roots.ensures.reads.keeps c.drop_events.ensures.keeps) c.drop_costs.ensures.keeps) c.drop_members.ensures.keeps) c.clear_baselines.ensures.keeps in
+    match_result c.drop_its_row.result (λ made. made) (λ e. store_fails_later old c.clear_baselines.new.file c.drop_its_row.new.file e keeps (λ _. tt))
+    (c.drop_its_row.ensures.done faithful wanted known db cleared.0 t cleared.1 cleared.2 roots)

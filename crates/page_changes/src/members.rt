@@ -1,0 +1,62 @@
+// The memberships of a run.
+ghost use Rattle.std.specs.Prelude.{OnOk};
+ghost use Rattle.sqlite_pool.specs.Pool as pools;
+ghost use Rattle.sqlite_pool.specs.Stored.{Keeps};
+ghost use Rattle.page_files.specs.Files.{IsUsable};
+ghost use Rattle.page_changes.specs.Removed.{Anything, DropsWithin, without_memberships};
+
+use page_files::PageFile;
+use page_places::{IndexPlace, Place, StoreRoots, error_of_row};
+use plain_tables::StoreError;
+use row_writes::{RowTest, erase_where};
+use sqlite_disk::Disk;
+use sqlite_record::fields::Fields;
+use sqlite_value::order::compare;
+use sqlite_value::value::ValueRef;
+use std::alloc::Global;
+
+/// Takes the rows whose second column is a run: the members that it is, or the groups whose baseline it is.
+#[derive(Clone, Copy, Debug)]
+pub(crate) struct OfRun(pub u32);
+
+impl RowTest for OfRun {
+    ghost use Rattle.page_changes.specs.Removed.{is_second};
+
+    ghost takes = { λ it. is_second it.0 };
+
+    fn test(&self, _rowid: i64, payload: &[u8]) -> bool {
+        let mut fields = Fields::new(payload);
+        let Some(_) = fields.next() else {
+            return false;
+        };
+        let Some(value) = fields.next() else {
+            return false;
+        };
+        compare(value, ValueRef::Int(i64::from(self.0))).is_eq()
+    }
+}
+
+/// Takes a run out of each group. It walks over the table of members.
+pub(crate) fn drop_members<D: Disk>(
+    file: &mut PageFile<D>,
+    alloc: Global,
+    roots: &StoreRoots,
+    run: u32,
+) -> Result<(), StoreError>
+    ensures done { DropsWithin file.old file.new roots.now (without_memberships run) Anything result }
+    ensures usable { OnOk result (IsUsable file.new) }
+    ensures keeps { Keeps (pools.state file.old.pool) (pools.state file.new.pool) }
+{
+    let keys = [IndexPlace {
+        root: roots.member_keys,
+        columns: &[1, 2],
+    }];
+    let place = Place {
+        root: roots.members,
+        indexes: &keys,
+    };
+    match erase_where(file, alloc, &place, &OfRun(run)) {
+        Ok(()) => Ok(()),
+        Err(error) => Err(error_of_row(error)),
+    }
+}

@@ -1,3 +1,0 @@
-pub mod Places
-pub mod Clearing
-pub mod Columns

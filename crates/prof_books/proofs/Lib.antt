@@ -1,5 +1,0 @@
-pub mod Books
-pub mod Filed
-pub mod Names
-pub mod Parts
-pub mod Rows

@@ -1,3 +1,0 @@
-pub mod ReadOnly
-pub mod Shown
-pub mod Untouched

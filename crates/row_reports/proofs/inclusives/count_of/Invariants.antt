@@ -1,7 +1,0 @@
-use Rattle.std.proofs.Common.{◌≡◌, ◌+◌, drop}
-use Rattle.report_texts.specs.Inclusive.{rows_count}
-use Rattle.row_reports.specs.Given.{plain_stacks}
-use Rattle.row_reports.proofs.inclusives.count_of.Given as goal
-
-abbrev pub invariant-loop-row : goal.invariant-loop-row
-invariant-loop-row l = l.count + rows_count (plain_stacks (drop l.row-index l.rows)) ≡ rows_count (plain_stacks l.rows)

@@ -1,2 +1,0 @@
-mod Imports
-mod Inserts

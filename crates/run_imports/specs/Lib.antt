@@ -1,3 +1,0 @@
-pub mod FromTables
-pub mod Imports
-pub mod Refused

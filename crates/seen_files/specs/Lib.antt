@@ -1,3 +1,0 @@
-pub mod Beginnings
-pub mod Findings
-pub mod Seen

@@ -1,4 +1,0 @@
-pub mod Answered
-pub mod FromTables
-pub mod Left
-pub mod Refusals

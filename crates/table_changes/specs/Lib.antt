@@ -1,5 +1,0 @@
-pub mod Changes
-pub mod Keys
-pub mod Unused
-pub mod Thinned
-pub mod Fills
