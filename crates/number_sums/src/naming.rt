@@ -11,12 +11,12 @@ ghost use Rattle.run_stores.specs.Names.{named_cell};
 ghost use Rattle.number_sums.specs.Named.{merged_by, named_sum, AreOf};
 ghost use Rattle.number_sums.specs.Sums.{number_rows, numbers_told, numbers_total, told};
 
+use crate::held_name;
 use crate::part_sums::PartSums;
 use crate::parts::NumberPart;
 use crate::sums::NumberSums;
 use cost_reports::LentSums;
 use cost_rows::{CellRow, Key};
-use crate::held_name;
 use run_stores::{NameTable, StoreError};
 use std::alloc::Global;
 

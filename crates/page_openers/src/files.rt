@@ -6,7 +6,10 @@ ghost use Rattle.sqlite_wal.specs.Recovery.{Image};
 ghost use Rattle.file_disks.specs.Untouched.{IsUntouched};
 ghost use Rattle.store_openers.specs.Opened.{ShowImage};
 
-use file_disks::{EitherDisk, FileOf, ReadOnly, Standing, Unopened, as_one, as_other, open_to_look, open_to_read, read_only};
+use file_disks::{
+    EitherDisk, FileOf, ReadOnly, Standing, Unopened, as_one, as_other, open_to_look, open_to_read,
+    read_only,
+};
 use prof_store::OpenError;
 use sqlite_disk::{Disk, Files as DiskFiles, Start};
 use sqlite_std_file::FileFrom;

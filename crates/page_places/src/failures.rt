@@ -2,9 +2,9 @@
 ghost use Rattle.std.specs.Prelude.{◌≡◌};
 ghost use Rattle.page_places.specs.Failures.{end_of_walk, failure_of, failure_of_row};
 
+use crate::errors::RowError;
 use page_rows::WalkError;
 use plain_tables::StoreError;
-use crate::errors::RowError;
 use sqlite_pages::Error;
 
 /// What an error of the pages is for a caller.

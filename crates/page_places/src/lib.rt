@@ -16,9 +16,9 @@ mod places;
 // Rowids that are free.
 mod rowids;
 
+pub use errors::RowError;
 pub use failures::{error_of, error_of_row, error_of_walk};
 pub use names::find_name;
+pub use places::{IndexPlace, Place};
 pub use roots::{StoreRoots, TABLE_NAMES, find_roots, index_root, table_root};
 pub use rowids::free_rowid;
-pub use errors::RowError;
-pub use places::{IndexPlace, Place};

@@ -7,12 +7,12 @@ ghost use Rattle.histories.specs.declared.answers.Answer as given;
 ghost use Rattle.prof_http.specs.Replies as spec;
 
 use crate::sending::{send_pieces, send_sums};
-use warehouse::line_of;
 use cost_exports::CellSums;
 use histories::{Answer, Refusal};
 use http_exchange::{Failing, RESPONSE_ROOM, StatusCode, Stream, put_head, send};
 use shared_texts::SharedText;
 use std::alloc::{AllocError, Global};
+use warehouse::line_of;
 
 /// What an exchange came to.
 #[derive(Clone, Copy, Debug, PartialEq, Eq)]

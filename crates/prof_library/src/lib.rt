@@ -51,8 +51,7 @@ pub use warehouse::{
 };
 
 // Over HTTP, and what the program prints.
-pub use warehouse::{line_of, status_of};
 pub use command_line::{Plan, PlanEnd, plan};
 pub use file_reading::{Total, TotalText, total_file, total_text};
-pub use prof_http::serve_on;
-pub use prof_http::{Exchange, Room, Stream, StreamFault, answer, routes};
+pub use prof_http::{Exchange, Room, Stream, StreamFault, answer, routes, serve_on};
+pub use warehouse::{line_of, status_of};

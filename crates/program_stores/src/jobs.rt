@@ -10,8 +10,8 @@ ghost use Rattle.program_stores.specs.Theorem.{WasDone};
 ghost use Rattle.requests.specs.Plain.{only_reads};
 ghost use Rattle.warehouse.specs.Taken.{CameTo};
 
-use prof_http::{Service, serve_over};
 use page_runs::PageRuns;
+use prof_http::{Service, serve_over};
 use run_stores::RunStore;
 use sessions::{Remark, WordsCommand, work_over};
 use sqlite_disk::Disk;

@@ -6,9 +6,12 @@ use crate::telling::tell_person;
 use crate::works::work_at;
 use anyhow::Result;
 use command_line::{Plan, PlanEnd, plan};
-use file_reading::{Beginning, Finding, SeenFile, TotalText, fault_finding, finding_line, total_read, unread_finding};
-use prof_http::Service;
+use file_reading::{
+    Beginning, Finding, SeenFile, TotalText, fault_finding, finding_line, total_read,
+    unread_finding,
+};
 use page_runs::PageRuns;
+use prof_http::Service;
 use profile_records::Kind;
 use sessions::{commands_of, print_total};
 use sqlite_disk::Disk;

@@ -7,9 +7,9 @@ ghost use Rattle.page_files.specs.Files.{IsUsable};
 ghost use Rattle.page_places.specs.Changes.{AreStorable};
 ghost use Rattle.page_places.specs.Entries.{EditsEntries};
 
-use page_places::{IndexPlace, RowError};
 use crate::records::{make_entry, write_record};
 use page_files::PageFile;
+use page_places::{IndexPlace, RowError};
 use sqlite_disk::Disk;
 use sqlite_value::keys::Order;
 use sqlite_value::row::Row;

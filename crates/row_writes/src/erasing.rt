@@ -8,9 +8,9 @@ ghost use Rattle.page_places.specs.Causes.{FailsToChange};
 ghost use Rattle.page_places.specs.Changes.{Anything, AtRows, EditsRows};
 ghost use Rattle.row_writes.specs.Tests.{rowids_of, rows_left};
 
-use page_places::{Place, RowError};
 use crate::rows::erase;
 use page_files::PageFile;
+use page_places::{Place, RowError};
 use page_rows::{RowSink, WalkError};
 use sqlite_disk::Disk;
 use sqlite_pages::Error;

@@ -9,9 +9,9 @@ ghost use Rattle.page_files.specs.Files.{IsUsable};
 ghost use Rattle.page_places.specs.Changes.{Anything, AreBelow, AreStorable, EditsRows, KeepsEntries};
 
 use crate::entries::{insert_entries, remove_entries};
-use page_places::{Place, RowError};
 use crate::records::{with_rowid, write_record};
 use page_files::PageFile;
+use page_places::{Place, RowError};
 use page_rows::read_row;
 use sqlite_disk::Disk;
 use sqlite_value::row::Row;

@@ -11,8 +11,8 @@ ghost use Rattle.page_places.specs.Entries.{EditsEntries};
 ghost use Rattle.row_writes.specs.Tests.{rows_left};
 ghost use Rattle.row_writes.specs.Under.{AreLed, entry_id, FindsUnder, is_under, out_under};
 
-use page_places::{IndexPlace, Place, RowError};
 use page_files::PageFile;
+use page_places::{IndexPlace, Place, RowError};
 use page_rows::{EntrySink, WalkError};
 use sqlite_disk::Disk;
 use sqlite_pages::Error;

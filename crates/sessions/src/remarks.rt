@@ -4,10 +4,10 @@ ghost use Rattle.requests.specs.Plain.{plain_request};
 ghost use Rattle.sessions.specs.Remarks as spec;
 
 use crate::commands::WordsCommand;
+use file_reading::{Beginning, Finding, SeenFile, fault_finding, unread_finding};
 use histories::{Answer, Refusal};
 use profile_records::Kind;
 use requests::Command;
-use file_reading::{Beginning, Finding, SeenFile, fault_finding, unread_finding};
 use std::io::ErrorKind;
 use std::rt::Files;
 

@@ -11,18 +11,18 @@ ghost use Rattle.sessions.specs.Sessions.{Prints, Wants, WasPerformed, WasRun, W
 
 use crate::commands::WordsCommand;
 use crate::remarks::{Remark, keep_remark};
-use warehouse::{Warehouse, is_refused, line_of};
 use byte_io::write_text;
 use cost_exports::{CellSums, Unwritten, write_csv};
+use file_reading::SeenFile;
 use histories::{Answer, Refusal};
 use requests::{Command, Query, Selection};
 use run_stores::RunStore;
-use file_reading::SeenFile;
 use shared_texts::TextSink;
 use std::alloc::AllocError;
 use std::io;
 use std::io::Write;
 use std::rt::Files;
+use warehouse::{Warehouse, is_refused, line_of};
 
 /// The path of the file that a command reads; an empty one where it reads none.
 fn path_of<'a>(command: &WordsCommand<'a>) -> &'a str

@@ -22,10 +22,12 @@ use histories::{Answer, Limits, Refusal, answer_of};
 use profile_records::Kind;
 use report_texts::CallSide;
 use requests::{Command, Query, Selection};
-use store_commands::{GroupChange, change_in, groups_answer, import_parsed, label_of, remove_in, runs_answer};
 use run_stores::{RunStore, StoreError};
 use std::alloc::Global;
 use store_calls::{calls_answer, inclusive_answer};
+use store_commands::{
+    GroupChange, change_in, groups_answer, import_parsed, label_of, remove_in, runs_answer,
+};
 use store_exports::{annotate_answer, csv_answer, csv_sums, folded_answer};
 use store_reports::{by_answer, subtract_answer, verify_answer};
 
