@@ -4,11 +4,11 @@ use Rattle.sqlite_value.specs.Order.{Row}
 use Rattle.sqlite_tied.specs.Compute.{everything}
 use Rattle.sqlite.specs.Listing.{understood}
 use Rattle.sqlite.specs.State.{State, ExecutesInside}
-use Rattle.sql_tables.specs.Contents.{Contain, no_rows}
+use Rattle.sql_tables.specs.Contents.{Contain, no_rows, without_content}
 use Rattle.sql_tables.specs.States.{Begins, Works}
 use Rattle.sql_tables.proofs.Beside.{creates_beside}
 use Rattle.sql_tables.proofs.Creates.{creates}
-use Rattle.sql_tables.proofs.TableDrops.{drops, without_content}
+use Rattle.sql_tables.proofs.TableDrops.{drops}
 use Rattle.store_schema.specs.Texts.{drop_cell_sql}
 use Rattle.store_schema.specs.Schema.{empty_schema, schema_one, meta_sql, meta_table, run_sql, run_table, run_event_sql, run_event_table, derived_sql, derived_table, coef_sql, coef_table, name_sql, name_table, cell_sql, cell_table, arc_sql, arc_table, stack_sql, stack_table, grp_sql, grp_table, member_sql, member_table, schema_to_meta, schema_to_run, schema_to_run_event, schema_to_derived, schema_to_coef, schema_to_name, schema_to_cell, schema_to_arc, schema_to_stack, schema_to_grp, schema_both, schema_two, thread_cell_sql, thread_cell_table, cell_at}
 use Rattle.store_schema.proofs.Defines.{meta_is, run_is, run_event_is, derived_is, coef_is, name_is, cell_is, arc_is, stack_is, grp_is, member_is, thread_cell_is}

@@ -1,8 +1,7 @@
 use Rattle.std.proofs.Common.{[]}
 use Rattle.std.specs.Result.{is_ok}
-use Rattle.sql_tables.specs.Contents.{Contain}
+use Rattle.sql_tables.specs.Contents.{Contain, without_content}
 use Rattle.sql_tables.specs.States.{Works}
-use Rattle.sql_tables.proofs.TableDrops.{without_content}
 use Rattle.store_schema.specs.Schema.{schema_both, schema_two}
 use Rattle.store_schema.specs.Texts.{drop_cell_sql}
 use Rattle.store_schema.proofs.Creates.{drops_cell}
