@@ -5,7 +5,7 @@ ghost use Rattle.shared_texts.specs.Written.{GoesOn};
 ghost use Rattle.cost_reports.specs.Rows.{lent_place, plain_call, plain_calls};
 
 use crate::call_reports::CallReport;
-use crate::key_texts::push_part;
+use crate::key_texts::push_last_part;
 use crate::numbers::push_number;
 use crate::places::LentPlace;
 use crate::rows::CallRow;
@@ -37,8 +37,7 @@ fn push_total(text: &mut TextWriter<'_>, calls: Pair) -> Result<(), AllocError>
     ensures { OnOk result (GoesOn text.old text.new (call_line calls (codes "total"))) }
 {
     push_pair(text, calls)?;
-    text.push(b' ')?;
-    text.push_bytes(b"total\n")
+    text.push_bytes(b" total\n")
 }
 
 /// Adds the line of a row.
@@ -50,10 +49,7 @@ fn push_row<'n>(text: &mut TextWriter<'n>, row: &CallRow<'n>) -> Result<(), Allo
         second: row.count,
     };
     push_pair(text, calls)?;
-    text.push(b' ')?;
-    push_part(text, Key::Function, &row.place)?;
-    text.push(b'\n')?;
-    Ok(())
+    push_last_part(text, Key::Function, &row.place)
 }
 
 /// Adds the lines of rows, as long as the text is no longer than it may be.
@@ -79,10 +75,7 @@ fn push_head<'n>(
     text.push_bytes(side_name(side))?;
     text.push(b' ')?;
     text.push_escaped(event)?;
-    text.push(b' ')?;
-    push_part(text, Key::Function, function)?;
-    text.push(b'\n')?;
-    Ok(())
+    push_last_part(text, Key::Function, function)
 }
 
 impl<'a> CallReport<'a> {

@@ -1,11 +1,11 @@
 // The text of a difference.
-ghost use Rattle.std.specs.Prelude.{◌≡◌, ◌≤◌, OnOk, IfOk, length};
+ghost use Rattle.std.specs.Prelude.{◌≡◌, ◌≤◌, ◌++◌, OnOk, IfOk, codes, length};
 ghost use Rattle.report_texts.specs.Differences.{signed_text, difference_line, difference_lines, difference_head, difference_text};
 ghost use Rattle.shared_texts.specs.Written.{GoesOn};
 ghost use Rattle.cost_reports.specs.Rows.{plain_difference, plain_differences};
 
 use crate::differences::Difference;
-use crate::key_texts::{key_name, push_part};
+use crate::key_texts::{push_key_and_event, push_last_part};
 use crate::rows::DifferenceRow;
 use crate::signed::push_signed;
 use cost_rows::Key;
@@ -33,9 +33,7 @@ fn push_row<'n>(
         below: row.below,
     };
     push_difference(text, difference)?;
-    text.push(b' ')?;
-    push_part(text, key, &row.place)?;
-    text.push(b'\n')
+    push_last_part(text, key, &row.place)
 }
 
 /// Adds the lines of rows, as long as the text is no longer than it may be.
@@ -58,11 +56,15 @@ fn push_head(text: &mut TextWriter<'_>, key: Key, event: &[u8]) -> Result<(), Al
     ensures { OnOk result (GoesOn text.old text.new (difference_head key event.now)) }
 {
     text.push_bytes(b"subtract ")?;
-    text.push_bytes(key_name(key))?;
-    text.push(b' ')?;
-    text.push_escaped(event)?;
-    text.push(b'\n')?;
-    Ok(())
+    push_key_and_event(text, key, event)
+}
+
+/// Adds the line of the whole difference.
+fn push_total(text: &mut TextWriter<'_>, total: Signed) -> Result<(), AllocError>
+    ensures { OnOk result (GoesOn text.old text.new (signed_text total ++ codes " total\n")) }
+{
+    push_difference(text, total)?;
+    text.push_bytes(b" total\n")
 }
 
 impl<'a> Difference<'a> {
@@ -71,8 +73,7 @@ impl<'a> Difference<'a> {
         ensures { OnOk result (GoesOn text.old text.new (difference_text event.now self.now)) }
     {
         push_head(text, self.key, event)?;
-        push_difference(text, self.total)?;
-        text.push_bytes(b" total\n")?;
+        push_total(text, self.total)?;
         push_rows(text, self.key, &self.rows)
     }
 

@@ -150,8 +150,33 @@ fn push_differing<'a>(
     Ok(())
 }
 
-/// The places whose sums on the two sides differ, in their order. Both sides come in this order, so one
-/// walk in step finds them.
+/// Adds the places whose sums on the two sides differ, in their order, where there are none. Both sides come in this
+/// order, so one walk in step finds them.
+fn push_all_differing<'n>(
+    rows: &mut Vec<DifferenceRow<'n>>,
+    first: &LentSums<'n>,
+    second: &LentSums<'n>,
+) -> Result<(), AllocError>
+    requires { rows.old.items ≡ [] }
+    ensures { OnOk result (plain_differences rows.new.items ≡ differing (beside first.now.sums second.now.sums)) }
+{
+    let mut firsts = first.iter();
+    let mut seconds = second.iter();
+    let mut left = next_row(&mut firsts);
+    let mut right = next_row(&mut seconds);
+    'places: while let Some(next) = next_of(left, right) {
+        push_differing(rows, next.place, next.pair)?;
+        if next.of_first {
+            left = next_row(&mut firsts);
+        }
+        if next.of_second {
+            right = next_row(&mut seconds);
+        }
+    }
+    Ok(())
+}
+
+/// The places whose sums on the two sides differ, in their order.
 fn differing_rows<'n>(
     alloc: Global,
     first: &LentSums<'n>,
@@ -160,20 +185,14 @@ fn differing_rows<'n>(
     ensures { IfOk result (λ rows. plain_differences rows.items ≡ differing (beside first.now.sums second.now.sums)) }
 {
     let mut rows = Vec::new(alloc);
-    let mut firsts = first.iter();
-    let mut seconds = second.iter();
-    let mut left = next_row(&mut firsts);
-    let mut right = next_row(&mut seconds);
-    'places: while let Some(next) = next_of(left, right) {
-        push_differing(&mut rows, next.place, next.pair)?;
-        if next.of_first {
-            left = next_row(&mut firsts);
-        }
-        if next.of_second {
-            right = next_row(&mut seconds);
+    match push_all_differing(&mut rows, first, second) {
+        Ok(()) => Ok(rows),
+        Err(error) => {
+            // What is dropped at each way out is slow to prove.
+            drop(rows);
+            Err(error)
         }
     }
-    Ok(rows)
 }
 
 /// The greatest difference first, whatever its sign, and equally great ones in the order of their

@@ -108,7 +108,9 @@ impl FrameSums {
         ensures { OnOk result (self.new ≡ with_stack self.old (plain_stack row.now)) }
     {
         let functions = functions_in(self.alloc, row.stack)?;
-        add_functions(&mut self.merged, &functions, row.count)?;
+        let added = add_functions(&mut self.merged, &functions, row.count);
+        drop(functions);
+        added?;
         self.total += row.count;
         Ok(())
     }

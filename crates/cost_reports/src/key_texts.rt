@@ -1,6 +1,7 @@
 // The text of a report by key.
 ghost use Rattle.std.specs.Fmt.{decimal};
-ghost use Rattle.std.specs.Prelude.{◌≡◌, ◌<◌, ◌≤◌, ◌^◌, OnOk, IfOk, length};
+ghost use Rattle.std.specs.Prelude.{◌≡◌, ◌<◌, ◌≤◌, ◌^◌, ◌++◌, OnOk, IfOk, codes, length};
+ghost use Rattle.byte_io.specs.Escapes.{escaped};
 ghost use Rattle.cost_rows.specs.KeySums.{total_of};
 ghost use Rattle.cost_rows.specs.declared.keys.Key.TheVariants.{Function, Line};
 ghost use Rattle.report_texts.specs.KeyTexts.{key_name, part_text, cost_text, cost_line, row_text, rows_text, head_text, key_report_text};
@@ -16,7 +17,7 @@ use cost_rows::Key;
 use shared_texts::{SharedText, TextWriter};
 use std::alloc::{AllocError, Global};
 
-pub(crate) fn key_name(key: Key) -> &'static [u8]
+fn key_name(key: Key) -> &'static [u8]
     ensures { result.now ≡ key_name key }
 {
     match key {
@@ -80,6 +81,15 @@ fn push_cost(text: &mut TextWriter<'_>, cost: u128, total: u128) -> Result<(), A
     push_percent(&mut text.bytes, cost, total)
 }
 
+/// Adds a word, behind a blank, and the end of the line.
+fn push_last_word(text: &mut TextWriter<'_>, word: &[u8]) -> Result<(), AllocError>
+    ensures { OnOk result (GoesOn text.old text.new (codes " " ++ (word.now ++ codes "\n"))) }
+{
+    text.push(b' ')?;
+    text.push_bytes(word)?;
+    text.push(b'\n')
+}
+
 /// Adds the line of a cost that is of no part of a place.
 pub(crate) fn push_sum(
     text: &mut TextWriter<'_>,
@@ -91,10 +101,20 @@ pub(crate) fn push_sum(
     ensures { OnOk result (GoesOn text.old text.new (cost_line cost total name.now)) }
 {
     push_cost(text, cost, total)?;
+    push_last_word(text, name)
+}
+
+/// Adds the part of a place that a key tells, behind a blank, and the end of the line.
+pub(crate) fn push_last_part<'n>(
+    text: &mut TextWriter<'n>,
+    key: Key,
+    place: &LentPlace<'n>,
+) -> Result<(), AllocError>
+    ensures { OnOk result (GoesOn text.old text.new (codes " " ++ (part_text key (lent_place place.now) ++ codes "\n"))) }
+{
     text.push(b' ')?;
-    text.push_bytes(name)?;
-    text.push(b'\n')?;
-    Ok(())
+    push_part(text, key, place)?;
+    text.push(b'\n')
 }
 
 /// Adds the line of a row.
@@ -108,10 +128,7 @@ fn push_row<'n>(
     ensures { OnOk result (GoesOn text.old text.new (row_text key total (plain_row row.now))) }
 {
     push_cost(text, row.cost.0, total)?;
-    text.push(b' ')?;
-    push_part(text, key, &row.place)?;
-    text.push(b'\n')?;
-    Ok(())
+    push_last_part(text, key, &row.place)
 }
 
 /// Adds the lines of rows, as long as the text is no longer than it may be.
@@ -131,16 +148,26 @@ pub(crate) fn push_rows<'n>(
     Ok(())
 }
 
+/// Adds a key and an event, to the end of the line.
+pub(crate) fn push_key_and_event(
+    text: &mut TextWriter<'_>,
+    key: Key,
+    event: &[u8],
+) -> Result<(), AllocError>
+    ensures { OnOk result (GoesOn text.old text.new (key_name key ++ (codes " " ++ (escaped event.now ++ codes "\n")))) }
+{
+    text.push_bytes(key_name(key))?;
+    text.push(b' ')?;
+    text.push_escaped(event)?;
+    text.push(b'\n')
+}
+
 /// Adds what the report is by, and of which event.
 fn push_head(text: &mut TextWriter<'_>, key: Key, event: &[u8]) -> Result<(), AllocError>
     ensures { OnOk result (GoesOn text.old text.new (head_text key event.now)) }
 {
     text.push_bytes(b"by ")?;
-    text.push_bytes(key_name(key))?;
-    text.push(b' ')?;
-    text.push_escaped(event)?;
-    text.push(b'\n')?;
-    Ok(())
+    push_key_and_event(text, key, event)
 }
 
 impl<'a> Report<'a> {

@@ -90,14 +90,14 @@ impl<'a> Clients<'a> {
 
     /// Has a client that was accepted wait for its head. Where too many wait, the time of the first is over.
     fn admit(&mut self, socket: TcpStream, address: SocketAddr) -> io::Result<()> {
-        if self.waiting.len() >= MOST_WAITING
+        let token = self.next_token();
+        let client = Waiting::for_head(self.rt, socket, address, token)?;
+        self.waiting.push(client)?;
+        if self.waiting.len() > MOST_WAITING
             && let Some(first) = self.waiting.first_mut()
         {
             first.until = Instant::now(self.rt)?;
         }
-        let token = self.next_token();
-        let client = Waiting::for_head(self.rt, socket, address, token)?;
-        self.waiting.push(client)?;
         Ok(())
     }
 
@@ -119,7 +119,7 @@ impl<'a> Clients<'a> {
     ) -> io::Result<()> {
         self.waiting.retain(|client| client.is_answered());
         'turns: for _ in 0..u64::MAX {
-            let _none = self.take_ready(head, fields)?;
+            drop(self.take_ready(head, fields)?);
             if self.waiting.is_empty() {
                 return Ok(());
             }

@@ -46,9 +46,10 @@ impl PageLine for StoredStack<'_> {
     }
 
     fn compare(&self, other: &Self, _index: usize) -> Ordering {
-        self.run
-            .cmp(&other.run)
-            .then_with(|| self.frames.cmp(other.frames))
+        if self.run != other.run {
+            return self.run.cmp(&other.run);
+        }
+        self.frames.cmp(other.frames)
     }
 }
 
@@ -79,10 +80,13 @@ impl PageLine for EventRow<'_> {
 
     /// The first index is by place, the second by name.
     fn compare(&self, other: &Self, index: usize) -> Ordering {
-        self.run.cmp(&other.run).then_with(|| match index {
+        if self.run != other.run {
+            return self.run.cmp(&other.run);
+        }
+        match index {
             0 => self.place.cmp(&other.place),
             _ => self.name.cmp(other.name),
-        })
+        }
     }
 }
 
@@ -107,10 +111,13 @@ impl PageLine for DerivedRow<'_> {
 
     /// The first index is by place, the second by name.
     fn compare(&self, other: &Self, index: usize) -> Ordering {
-        self.run.cmp(&other.run).then_with(|| match index {
+        if self.run != other.run {
+            return self.run.cmp(&other.run);
+        }
+        match index {
             0 => self.place.cmp(&other.place),
             _ => self.name.cmp(other.name),
-        })
+        }
     }
 }
 
@@ -135,9 +142,12 @@ impl PageLine for CoefRow {
     }
 
     fn compare(&self, other: &Self, _index: usize) -> Ordering {
-        self.run
-            .cmp(&other.run)
-            .then_with(|| self.place.cmp(&other.place))
-            .then_with(|| self.event.cmp(&other.event))
+        if self.run != other.run {
+            return self.run.cmp(&other.run);
+        }
+        if self.place != other.place {
+            return self.place.cmp(&other.place);
+        }
+        self.event.cmp(&other.event)
     }
 }

@@ -1,5 +1,5 @@
 // The sums with their names.
-ghost use Rattle.std.specs.Prelude.{◌≡◌, ◌<◌, ◌^◌, List, map, IfOk, MatchResult};
+ghost use Rattle.std.specs.Prelude.{◌≡◌, ◌<◌, ◌^◌, List, [], map, IfOk, OnOk, MatchResult};
 ghost use Rattle.std.specs.List.{AllByRecursion};
 ghost use Rattle.cost_reports.specs.Rows.{sum_of_row};
 ghost use Rattle.cost_rows.specs.KeySums.{sums_by};
@@ -54,6 +54,27 @@ pub(crate) fn named_row<'n, N: NameTable>(
     })
 }
 
+/// Adds sums, by name, where nothing was added.
+fn add_named<'n, N: NameTable>(
+    names: &'n N,
+    key: Key,
+    sums: &PartSums,
+    merged: &mut LentSums<'n>,
+) -> Result<(), StoreError>
+    requires key { merged.old.key ≡ key }
+    requires none { merged.old.sums ≡ [] }
+    requires small { numbers_total sums.now < 2 ^ 112 }
+    ensures key { merged.new.key ≡ key }
+    ensures sums { OnOk result (merged.new ≡ merged_by (N.name_rows names.now) key sums.now) }
+    ensures held { OnOk result (AllByRecursion (IsHeld (N.name_rows names.now)) (numbers_told key sums.now)) }
+{
+    for (part, cost) in sums.iter() {
+        let row = named_row(names, key, part, cost)?;
+        merged.add(&row)?;
+    }
+    Ok(())
+}
+
 /// The sums by name.
 fn merge_named<'n, N: NameTable>(
     alloc: Global,
@@ -67,21 +88,14 @@ fn merge_named<'n, N: NameTable>(
     ensures held { IfOk result (λ _. AllByRecursion (IsHeld (N.name_rows names.now)) (numbers_told key sums.now)) }
 {
     let mut merged = LentSums::new(alloc, key);
-    // Sums that are alive at a way out cost the prover much.
-    for (part, cost) in sums.iter() {
-        let row = match named_row(names, key, part, cost) {
-            Ok(row) => row,
-            Err(end) => {
-                drop(merged);
-                return Err(end);
-            }
-        };
-        if merged.add(&row).is_err() {
+    match add_named(names, key, sums, &mut merged) {
+        Ok(()) => Ok(merged),
+        Err(error) => {
+            // What is dropped at each way out is slow to prove.
             drop(merged);
-            return Err(StoreError::Memory);
+            Err(error)
         }
     }
-    Ok(merged)
 }
 
 impl NumberSums {

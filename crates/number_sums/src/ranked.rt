@@ -68,6 +68,26 @@ fn push_cell<'n>(
     Ok(())
 }
 
+/// Adds rows as cells, with their names, where there are none.
+fn push_cells<'n, N: NameTable>(
+    names: &'n N,
+    key: Key,
+    rows: &[PartSum],
+    cells: &mut Vec<CellRow<&'n [u8]>>,
+) -> Result<(), StoreError>
+    requires { cells.old.items ≡ [] }
+    ensures sums { OnOk result (map (λ r. sum_of_row (plain_cell r)) cells.new.items
+        ≡ map (named_sum (N.name_rows names.now) key) (sums_of rows.now)) }
+    ensures held { MatchResult result (λ _. AllByRecursion (IsHeld (N.name_rows names.now)) (numbers_told key (sums_of rows.now)))
+        (λ error. error ≡ Store → ¬ (AllByRecursion (IsHeld (N.name_rows names.now)) (numbers_told key (sums_of rows.now)))) }
+{
+    for row in rows {
+        let cell = named_row(names, key, &row.part, row.cost.0)?;
+        push_cell(cells, cell)?;
+    }
+    Ok(())
+}
+
 /// Rows as cells, with their names.
 fn cells_of<'n, N: NameTable>(
     alloc: Global,
@@ -81,11 +101,14 @@ fn cells_of<'n, N: NameTable>(
         (λ error. error ≡ Store → ¬ (AllByRecursion (IsHeld (N.name_rows names.now)) (numbers_told key (sums_of rows.now)))) }
 {
     let mut cells = Vec::with_capacity(alloc, rows.len())?;
-    for row in rows {
-        let cell = named_row(names, key, &row.part, row.cost.0)?;
-        push_cell(&mut cells, cell)?;
+    match push_cells(names, key, rows, &mut cells) {
+        Ok(()) => Ok(cells),
+        Err(error) => {
+            // What is dropped at each way out is slow to prove.
+            drop(cells);
+            Err(error)
+        }
     }
-    Ok(cells)
 }
 
 /// The numbers that rows tell.

@@ -23,3 +23,11 @@ on_ok (Err e) so p = tt
 pub given_ok : {T E : Type 0} (r : Result T E) {P : Type 0} → P → OnOk r P
 given_ok (Ok x) p = p
 given_ok (Err e) p = tt
+
+-- what follows from a fact, which is written once
+pub so_by : {P X : Type 0} → P → (P → X) → X
+so_by p so = so p
+
+-- from the parts of one
+pub so_by_parts : {A : Type 0} {B C : A → Type 0} {X : Type 0} → ((a : A) × B a × C a) → ((a : A) → B a → C a → X) → X
+so_by_parts (a, b, c) so = so a b c

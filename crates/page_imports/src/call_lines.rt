@@ -49,16 +49,30 @@ impl PageLine for CallLine<'_> {
     /// Both lines are of one run.
     fn compare(&self, other: &Self, _index: usize) -> Ordering {
         let names = self.names;
-        let by_name = |one: u32, two: u32| names.number_of(one).cmp(&names.number_of(two));
         let (one, two) = (self.call, other.call);
-        by_name(one.place.object, two.place.object)
-            .then_with(|| by_name(one.place.file, two.place.file))
-            .then_with(|| by_name(one.place.function, two.place.function))
-            .then_with(|| one.place.line.cmp(&two.place.line))
-            .then_with(|| by_name(one.object, two.object))
-            .then_with(|| by_name(one.file, two.file))
-            .then_with(|| by_name(one.function, two.function))
-            .then_with(|| self.part.cmp(&other.part))
+        let mut order = names.compare(one.place.object, two.place.object);
+        if order.is_eq() {
+            order = names.compare(one.place.file, two.place.file);
+        }
+        if order.is_eq() {
+            order = names.compare(one.place.function, two.place.function);
+        }
+        if order.is_eq() {
+            order = one.place.line.cmp(&two.place.line);
+        }
+        if order.is_eq() {
+            order = names.compare(one.object, two.object);
+        }
+        if order.is_eq() {
+            order = names.compare(one.file, two.file);
+        }
+        if order.is_eq() {
+            order = names.compare(one.function, two.function);
+        }
+        if order.is_eq() {
+            order = self.part.cmp(&other.part);
+        }
+        order
     }
 }
 

@@ -47,14 +47,24 @@ impl PageLine for CellLine<'_> {
     /// Both lines are of one run.
     fn compare(&self, other: &Self, _index: usize) -> Ordering {
         let names = self.names;
-        let by_name = |one: u32, two: u32| names.number_of(one).cmp(&names.number_of(two));
         let (one, two) = (&self.place.place, &other.place.place);
-        by_name(one.function, two.function)
-            .then_with(|| one.line.cmp(&two.line))
-            .then_with(|| by_name(one.file, two.file))
-            .then_with(|| by_name(one.object, two.object))
-            .then_with(|| self.place.thread.cmp(&other.place.thread))
-            .then_with(|| self.event.cmp(&other.event))
+        let mut order = names.compare(one.function, two.function);
+        if order.is_eq() {
+            order = one.line.cmp(&two.line);
+        }
+        if order.is_eq() {
+            order = names.compare(one.file, two.file);
+        }
+        if order.is_eq() {
+            order = names.compare(one.object, two.object);
+        }
+        if order.is_eq() {
+            order = self.place.thread.cmp(&other.place.thread);
+        }
+        if order.is_eq() {
+            order = self.event.cmp(&other.event);
+        }
+        order
     }
 }
 

@@ -82,7 +82,7 @@ fn put_new_run<D: Disk>(
     ensures usable { OnOk result (IsUsable file.new) }
     ensures keeps { Keeps (pools.state file.old.pool) (pools.state file.new.pool) }
 {
-    let lines = head_rows(alloc, number, summed.head, &summed.totals)?;
+    let roots = find_roots(file, alloc)?;
     let Some(call_count) = column_int_of(summed.totals.call_count) else {
         return Err(StoreError::Store);
     };
@@ -93,7 +93,7 @@ fn put_new_run<D: Disk>(
         label,
         call_count,
     };
-    let roots = find_roots(file, alloc)?;
+    let lines = head_rows(alloc, number, summed.head, &summed.totals)?;
     put_contents(file, alloc, &roots, &run, &lines, summed.rows)
 }
 

@@ -4,6 +4,7 @@ ghost use Rattle.sqlite_value.specs.declared.value.Value.TheVariants.{Int};
 ghost use Rattle.sqlite_value.specs.Value.{owned};
 
 use sqlite_value::value::ValueRef;
+use std::cmp::Ordering;
 
 /// What all lines of a run have in common: its number, and the tables' numbers of the file's names.
 #[derive(Drop)]
@@ -25,6 +26,11 @@ impl RunNames<'_> {
         ensures { result ≡ slice_index_or self.now.numbers.now name 0 }
     {
         self.numbers.get(name as usize).copied().unwrap_or(0)
+    }
+
+    /// How two names that the file has under numbers of its own stand by the tables' numbers.
+    pub(crate) fn compare(&self, one: u32, two: u32) -> Ordering {
+        self.number_of(one).cmp(&self.number_of(two))
     }
 }
 

@@ -99,6 +99,10 @@ pub fn open_file<D: Disk + Drop>(
     };
     match PageFile::open(alloc, pool) {
         Ok(file) => Ok(file),
-        Err(failed) => Err(error_of(failed.error)),
+        Err(failed) => {
+            let error = failed.error;
+            drop(failed);
+            Err(error_of(error))
+        }
     }
 }

@@ -38,6 +38,7 @@ use run_stores::{
 use sqlite_disk::{Disk, Files};
 use sqlite_pager::Options;
 use std::alloc::Global;
+use std::mem;
 
 /// A store of runs in the pages of its file. Its small tables are held; the rows of runs and the names are read from
 /// the pages when they are asked for. A change is written into the pages in one transaction.
@@ -174,13 +175,16 @@ impl<D: Disk> PageRuns<D> {
     {
         match self.file.commit() {
             Ok(()) => {
-                self.lists = lists;
+                drop(mem::replace(&mut self.lists, lists));
                 // Those of runs that are gone would take the places of others.
-                self.hints = RunHints::new(self.alloc);
+                drop(mem::replace(&mut self.hints, RunHints::new(self.alloc)));
                 self.kept_cells.forget();
                 Ok(())
             }
-            Err(error) => Err(error_of(error)),
+            Err(error) => {
+                drop(lists);
+                Err(error_of(error))
+            }
         }
     }
 

@@ -8,13 +8,13 @@ ghost use Rattle.prof_store.specs.Shown.{Asks, Found, Told};
 use crate::statements::select_row;
 use crate::store::Store;
 use sqlite::{Alter, Row};
-use store_schema::{OutOfForm, StoreError, sum_at};
+use store_schema::{StoreError, sum_at};
 
 /// SQL counts no further.
 const MOST: u64 = 0x7fff_ffff_ffff_ffff;
 
 /// The count in a row, which may mean more at `MOST` alone.
-fn count_in(row: &Row) -> Result<u64, OutOfForm>
+fn count_in(row: &Row) -> Result<u64, StoreError>
     ensures read { IfOk result (λ n. column row.now 0 ≡ Int (pos n)) }
     ensures exact { IfOk result (λ n. n + 1 < 2 ^ 63) }
     ensures refused { IfErr result (λ _. (n : _) → column row.now 0 ≡ Int (pos n) → 2 ^ 63 ≤ n + 1) }
@@ -23,7 +23,7 @@ fn count_in(row: &Row) -> Result<u64, OutOfForm>
     if count < MOST {
         Ok(count)
     } else {
-        Err(OutOfForm)
+        Err(StoreError::Store)
     }
 }
 
@@ -35,7 +35,7 @@ impl<S: Alter> Store<S> {
         ensures asks { Asks S.Store (is_ok result) self.old self.new }
     {
         let row = select_row(&mut self.conn, "SELECT count(*) FROM run", &[])?;
-        Ok(count_in(&row)?)
+        count_in(&row)
     }
 
     /// How many groups are held.
@@ -45,6 +45,6 @@ impl<S: Alter> Store<S> {
         ensures asks { Asks S.Store (is_ok result) self.old self.new }
     {
         let row = select_row(&mut self.conn, "SELECT count(*) FROM grp", &[])?;
-        Ok(count_in(&row)?)
+        count_in(&row)
     }
 }

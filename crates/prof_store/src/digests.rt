@@ -10,10 +10,10 @@ ghost use Rattle.prof_store.specs.Shown.{Asks, Found, Told, shown};
 use crate::statements::select_first;
 use crate::store::Store;
 use sqlite::{Alter, Row, params};
-use store_schema::{OutOfForm, StoreError, number_at};
+use store_schema::{StoreError, number_at};
 
 /// The number in a row of one column, if there is a row.
-fn number_in(row: Option<Row>) -> Result<Option<u32>, OutOfForm>
+fn number_in(row: Option<Row>) -> Result<Option<u32>, StoreError>
     ensures read { IfOk result (λ found. MatchOption found (row ≡ None) (λ n. (shown : _) × (row ≡ Some shown) × (column shown 0 ≡ Int (pos n)))) }
 {
     match row {
@@ -34,6 +34,6 @@ impl<S: Alter> Store<S> {
             "SELECT run FROM run WHERE digest = ?1",
             params![digest],
         )?;
-        Ok(number_in(row)?)
+        number_in(row)
     }
 }

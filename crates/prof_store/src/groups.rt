@@ -15,8 +15,7 @@ use sqlite::{Alter, Row};
 use std::alloc::Global;
 use std::cmp::Ordering;
 use store_schema::{
-    FromRow, OutOfForm, StoreError, is_group_name, number_at, number_or_null_at, read_rows, rise,
-    text_at,
+    FromRow, StoreError, is_group_name, number_at, number_or_null_at, read_rows, rise, text_at,
 };
 
 /// A run that is in a group.
@@ -63,17 +62,29 @@ fn group_entry(
     name: String,
     baseline: Option<u32>,
     members: ListVec<u32>,
-) -> Result<GroupEntry, OutOfForm>
+) -> Result<GroupEntry, StoreError>
     ensures read { IfOk result (λ entry. (entry.name ≡ name) × (entry.baseline ≡ baseline) × (entry.members ≡ members)) }
 {
     if !is_group_name(name.as_str()) || !rise(members.as_slice()) {
-        return Err(OutOfForm);
+        return Err(StoreError::Store);
     }
     Ok(GroupEntry {
         name,
         baseline,
         members,
     })
+}
+
+/// The group that a row shows, with the members at the front that are of it.
+fn entry_in(alloc: Global, row: &Row, members: &[Member]) -> Result<GroupEntry, StoreError>
+    ensures shown { IfOk result (λ e. group_columns (entry_group e) ≡ first_two row.now) }
+    ensures within { IfOk result (λ e. length e.members ≤ length members.now) }
+    ensures front { IfOk result (λ e. entry_members e ≡ map member_row (take (length e.members) members.now)) }
+{
+    let baseline = number_or_null_at(row, 1)?;
+    let name = text_at(row, 0)?;
+    let runs = runs_of(alloc, name.as_str(), members)?;
+    group_entry(name, baseline, runs)
 }
 
 /// The groups in rows, each with the next members that are of it, and the members that are left.
@@ -84,11 +95,8 @@ fn joined(alloc: Global, rows: &[Row], members: &[Member]) -> Result<Vec<GroupEn
     let mut entries = Vec::new(alloc);
     let mut joined = 0;
     'rows: for row in rows {
-        let name = text_at(row, 0)?;
-        let baseline = number_or_null_at(row, 1)?;
-        let runs = runs_of(alloc, name.as_str(), &members[joined..])?;
-        joined += runs.len();
-        let entry = group_entry(name, baseline, runs)?;
+        let entry = entry_in(alloc, row, &members[joined..])?;
+        joined += entry.members.len();
         if entries.push(entry).is_err() {
             return Err(StoreError::Memory);
         }

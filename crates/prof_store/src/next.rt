@@ -8,8 +8,15 @@ ghost use Rattle.prof_store.specs.Shown.{Asks, Found, Told};
 
 use crate::statements::select_row;
 use crate::store::Store;
-use sqlite::Alter;
+use sqlite::{Alter, Row};
 use store_schema::{StoreError, number_at};
+
+/// The number in a row of one column.
+fn number_in(row: &Row) -> Result<u32, StoreError>
+    ensures read { IfOk result (λ n. column row.now 0 ≡ Int (pos n)) }
+{
+    Ok(number_at(row, 0)?)
+}
 
 impl<S: Alter> Store<S> {
     /// The number that the next run gets.
@@ -19,6 +26,6 @@ impl<S: Alter> Store<S> {
         ensures asks { Asks S.Store (is_ok result) self.old self.new }
     {
         let row = select_row(&mut self.conn, "SELECT next_run FROM meta", &[])?;
-        Ok(number_at(&row, 0)?)
+        number_in(&row)
     }
 }

@@ -12,7 +12,7 @@ use cg_text::ListVec;
 use cost_rows::FileTotals;
 use sqlite::{Alter, Row, params};
 use std::alloc::Global;
-use store_schema::{OutOfForm, StoreError};
+use store_schema::StoreError;
 
 /// The sums of an event over all runs: of self costs, and of the costs of calls.
 #[derive(Drop)]
@@ -22,7 +22,7 @@ struct EventSums {
 }
 
 /// The sums of two columns.
-fn sums_in(rows: &[Row]) -> Result<EventSums, OutOfForm>
+fn sums_in(rows: &[Row]) -> Result<EventSums, StoreError>
     ensures own { IfOk result (λ sums. IsSum 0 rows.now sums.own) }
     ensures calls { IfOk result (λ sums. IsSum 1 rows.now sums.calls) }
     ensures bounded { IfOk result (λ sums. (sums.own < 2 ^ 112) × (sums.calls < 2 ^ 112)) }
@@ -45,7 +45,7 @@ impl<S: Alter> Store<S> {
             "SELECT self_cost, call_cost FROM run_event WHERE name = ?1",
             params![name],
         )?;
-        Ok(sums_in(&rows)?)
+        sums_in(&rows)
     }
 
     /// The sum of the call counts of all runs.
@@ -56,7 +56,7 @@ impl<S: Alter> Store<S> {
         ensures asks { Asks S.Store (is_ok result) self.old self.new }
     {
         let rows = select(&mut self.conn, "SELECT call_count FROM run", &[])?;
-        Ok(column_sum(&rows, 0)?)
+        column_sum(&rows, 0)
     }
 
     /// The sums of events, self costs and costs of calls, in their order.

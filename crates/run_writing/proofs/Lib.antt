@@ -1,4 +1,5 @@
 pub mod Finding
 pub mod Queueing
+mod Refusals
 pub mod RowsWritten
 pub mod RunInserts

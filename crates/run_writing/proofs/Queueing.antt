@@ -41,6 +41,14 @@ module _ {S Y : Type 0} (g : Ghosts S) (with_lines : List Y → Tables → Table
     pub queues_waiting : ((t : Tables) → with_lines [] t ≡ t) → (ok : Bool) (held : List X) (x : X) (waiting : List X) (tx : Transaction S) → waiting ≡ held ++ x ∷ [] → Queues g plain with_lines ok held (plain x ∷ []) waiting tx tx
     queues_waiting none ok held x waiting tx pushed = record { written = []; writes = no_lines none ok tx; lines = λ _. ap (map plain) pushed ∙ map-append plain held (x ∷ []) }
 
+    -- one line is taken up, and those that wait are written
+    pub queues_written : (ok : Bool) (held : List X) (x : X) (waiting left : List X) (old new : Transaction S) → waiting ≡ held ++ x ∷ [] → left ≡ [] → Writes g ok (with_lines (map plain waiting)) old new → Queues g plain with_lines ok held (plain x ∷ []) left old new
+    queues_written ok held x waiting left old new pushed empty writes = record {
+      written = map plain waiting;
+      writes = writes;
+      lines = λ _. ap (λ l. map plain waiting ++ map plain l) empty ∙ append-nil (map plain waiting) ∙ ap (map plain) pushed ∙ map-append plain held (x ∷ []);
+    }
+
     -- nothing was taken up
     pub queues_begin : ((t : Tables) → with_lines [] t ≡ t) → (waiting : List X) (tx : Transaction S) → waiting ≡ [] → Queues g plain with_lines true [] [] waiting tx tx
     queues_begin none waiting tx empty = record { written = []; writes = no_lines none true tx; lines = λ _. ap (map plain) empty }

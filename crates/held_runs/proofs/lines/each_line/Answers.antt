@@ -1,12 +1,29 @@
-use Rattle.std.proofs.Common.{◌++◌, ◌∷◌, [], true, arith, subst, sym, ◌∙◌}
-use Rattle.sql_tables.proofs.Calls.{asked_rests_yet}
+use Rattle.std.proofs.Common.{◌++◌, ◌∷◌, [], true, false, arith, subst, sym, ◌∙◌}
+use Rattle.std.proofs.lemmas.Result.{IfOk-from_err, err_from_is_err_and}
+use Rattle.sql_tables.proofs.Calls.{asked_refused, asked_rests_yet}
 use Rattle.store_schema.specs.Schema.{schema_two}
+use Rattle.sql_tables.specs.Calls.{Asked}
+use Rattle.sqlite.specs.Held.{state}
+use Rattle.sqlite.specs.State.{HasCleanDisk}
 use Rattle.prof_store.specs.Readings.{RowsSay}
-use Rattle.held_runs.specs.Walks.{rows_of, AreAllRead, HandsOn}
-use Rattle.held_runs.proofs.Asking.{asked_open_then}
+use Rattle.prof_store.specs.Shown.{shown}
+use Rattle.held_runs.specs.Walks.{rows_of, AreAllRead, Gives, HandsOn}
+use Rattle.held_runs.proofs.Asking.{asked_open_none, asked_open_then}
 use Rattle.held_runs.proofs.LineWalks.{all_given}
 use Rattle.held_runs.proofs.Said.{ready_for}
 use Rattle.held_runs.proofs.lines.each_line.Goals as goal
+
+pub lines-init : goal.lines-init
+lines-init g c =
+    let begun = c.begin-walk.ensures in
+    let old = shown g.S.Store c.args.store.now in
+    record {
+      run = begun.run;
+      asked = λ clean.
+          let before = subst (λ conn. HasCleanDisk (state g.S.Store conn)) begun.untouched clean in
+          subst (λ conn. Asked schema_two old.is_open old (state g.S.Store conn)) (sym begun.untouched) (asked_open_none schema_two old before);
+      taken = λ clean ready start was. ([], subst (λ listed. Gives g.S.Store listed [] c.begin-walk.new.store c.begin-walk.result) c.table.ensures (begun.ready ready), was);
+    }
 
 pub lines-preserved : goal.lines-preserved
 lines-preserved g c =
@@ -44,3 +61,17 @@ returns-then-not-branch-clause-told g c clean t represents start was =
 
 pub returns-then-not-branch-clause-asks : goal.returns-then-not-branch-clause-asks
 returns-then-not-branch-clause-asks g c clean = let one = c.in_ok-hand_line.ensures.asks clean in asked_open_then schema_two true _ _ _ (c.lines.invariant.asked one.stays.was_clean) one
+
+pub returns-in_err-hand_line-clause-found : goal.returns-in_err-hand_line-clause-found
+returns-in_err-hand_line-clause-found g c clean ready = IfOk-from_err c.from_residual.result _ c.from_residual.ensures.0
+
+pub returns-in_err-hand_line-clause-told : goal.returns-in_err-hand_line-clause-told
+returns-in_err-hand_line-clause-told g c clean t was = IfOk-from_err c.from_residual.result _ c.from_residual.ensures.0
+
+pub returns-in_err-hand_line-clause-asks : goal.returns-in_err-hand_line-clause-asks
+returns-in_err-hand_line-clause-asks g c clean =
+    let one = c.in_err-hand_line.ensures.asks clean in
+    let both = asked_open_then schema_two false _ _ _ (c.lines.invariant.asked one.stays.was_clean) one in rw (err_from_is_err_and c.from_residual.result c.from_residual.ensures.1).1 both
+
+pub returns-clause-asks : goal.returns-clause-asks
+returns-clause-asks g c clean = asked_refused schema_two _ _ _ (c.lines.invariant.asked clean)

@@ -1,5 +1,7 @@
 use Rattle.std.proofs.Common.{◌≡◌, ◌<◌, length, get_or, map, sym, ap, subst, ◌∙◌}
 use Rattle.sql_tables.specs.Walks.{read_from}
+use Rattle.sql_tables.proofs.Calls.{asked_refused}
+use Rattle.store_schema.specs.Schema.{schema_two}
 use Rattle.held_runs.specs.Walks.{asked}
 use Rattle.held_runs.proofs.LineWalks.{given_more}
 use Rattle.held_runs.proofs.WalkSteps.{took_step}
@@ -24,3 +26,6 @@ returns-in_ok-take-in-Some-clause-handed g c start clean lines was has =
     let taken = c.in_ok-take-in-Some.ensures start lines has in
     let says = taken.1 ∙ ap (λ k. read_from (asked k walk.run) x) (sym table_is) in
     (taken.0, given_more g.S.Store t.listed t.columns lines taken.0 _ _ (record { table_is = table_is; walks = took_step g.S.Store (map t.columns lines) _ walk x (t.columns taken.0) there.0 there.1 says moved.0 }), taken.2)
+
+pub returns-in-None-clause-asks : goal.returns-in-None-clause-asks
+returns-in-None-clause-asks g c clean = asked_refused schema_two _ _ _ (c.in_ok-has_row.ensures.asks clean)

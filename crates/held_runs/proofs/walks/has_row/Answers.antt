@@ -1,5 +1,6 @@
 use Rattle.std.proofs.Common.{rules, ◌≡◌, true, false, [], drop, ◌∙◌}
 use Rattle.std.proofs.lemmas.List.{drop_all}
+use Rattle.sql_tables.proofs.Calls.{asked_refused}
 use Rattle.store_schema.specs.Schema.{schema_two}
 use Rattle.held_runs.proofs.Asking.{asked_open_then}
 use Rattle.held_runs.proofs.walks.has_row.Goals as goal
@@ -22,3 +23,9 @@ pages-preserved g c =
       asked = λ clean. let one = t.asks clean in asked_open_then schema_two true _ _ _ (i.asked one.stays.was_clean) one;
       moved = λ clean given was. (t.moved clean given (i.moved (t.asks clean).stays.was_clean given was) none).0;
     }
+
+pub returns-then-not-branch-clause-asks : goal.returns-then-not-branch-clause-asks
+returns-then-not-branch-clause-asks g c clean = let one = c.in_ok-turn.ensures.asks clean in asked_open_then schema_two true _ _ _ (c.pages.invariant.asked one.stays.was_clean) one
+
+pub returns-clause-asks : goal.returns-clause-asks
+returns-clause-asks g c clean = asked_refused schema_two _ _ _ (c.pages.invariant.asked clean)

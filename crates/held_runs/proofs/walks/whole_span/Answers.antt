@@ -1,6 +1,6 @@
-use Rattle.std.proofs.Common.{true, refl}
+use Rattle.std.proofs.Common.{true, false, refl}
 use Rattle.std.proofs.lemmas.Option.{IfSome_then}
-use Rattle.sql_tables.proofs.Calls.{asked_then}
+use Rattle.sql_tables.proofs.Calls.{asked_err, asked_then}
 use Rattle.store_schema.specs.Schema.{schema_two}
 use Rattle.prof_store.specs.Shown.{shown}
 use Rattle.held_runs.proofs.WalkSteps.{ready_if_now, whole_step}
@@ -19,3 +19,8 @@ returns-clause-lie g c clean was =
 
 pub returns-clause-asks : goal.returns-clause-asks
 returns-clause-asks g c clean = let later = c.in_ok-last.ensures.asks clean in asked_then schema_two true _ _ _ (c.in_ok-first.ensures.asks later.stays.was_clean) later
+
+pub returns-in_err-last-clause-asks : goal.returns-in_err-last-clause-asks
+returns-in_err-last-clause-asks g c clean =
+    let later = c.in_err-last.ensures.asks clean in
+    asked_err schema_two c.from_residual-in_err-last.result _ _ c.from_residual-in_err-last.ensures.0 (asked_then schema_two false _ _ _ (c.in_ok-first.ensures.asks later.stays.was_clean) later)

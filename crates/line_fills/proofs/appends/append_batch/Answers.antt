@@ -4,7 +4,7 @@ use Rattle.sqlite_trees.specs.Tree.{put_row, with_tree}
 use Rattle.page_edits.specs.Places.{place_all, rows_given}
 use Rattle.page_files.specs.Held.{Writes}
 use Rattle.page_places.proofs.Outcomes.{as_given}
-use Rattle.std.proofs.lemmas.Result.{err_from_is_err_and}
+use Rattle.std.proofs.lemmas.Result.{IfOk-from_err, err_from_is_err_and}
 use Rattle.page_places.proofs.Failing.{memory_fails, pages_fail}
 use Rattle.line_fills.proofs.Failing.{refused_fails}
 use Rattle.line_fills.specs.Records.{IsWritable}
@@ -47,13 +47,13 @@ returns-clause-done g c faithful = λ wanted roots was now t w is plain.
     pages_fail c.args.file.now c.append.new.self c.in-Err.error _ c.error_of.ensures (c.in-Err.ensures.done faithful wanted roots was now t w is (λ k d low. as_given wanted t _ plain))
 
 pub returns-in_err-records-clause-usable : goal.returns-in_err-records-clause-usable
-returns-in_err-records-clause-usable g c = rw (err_from_is_err_and c.from_residual.result c.from_residual.ensures.1).1 tt
+returns-in_err-records-clause-usable g c = IfOk-from_err c.from_residual.result _ c.from_residual.ensures.0
 
 pub returns-in_err-records-clause-keeps : goal.returns-in_err-records-clause-keeps
 returns-in_err-records-clause-keeps g c = Keeps-refl _
 
 pub returns-in_err-rows-clause-usable : goal.returns-in_err-rows-clause-usable
-returns-in_err-rows-clause-usable g c = rw (err_from_is_err_and c.from_residual-in_err-rows.result c.from_residual-in_err-rows.ensures.1).1 tt
+returns-in_err-rows-clause-usable g c = IfOk-from_err c.from_residual-in_err-rows.result _ c.from_residual-in_err-rows.ensures.0
 
 pub returns-in_err-rows-clause-keeps : goal.returns-in_err-rows-clause-keeps
 returns-in_err-rows-clause-keeps g c = Keeps-refl _

@@ -2,7 +2,7 @@ use Rattle.std.proofs.Common.{◌≡◌, IfSome, IsPermutation, length, map, sym
 use Rattle.std.specs.List.{range_with_len}
 use Rattle.std.proofs.lemmas.List.{length-map}
 use Rattle.std.proofs.lemmas.List.Sorted.{All-permutation}
-use Rattle.std.proofs.lemmas.Result.{err_from_is_err_and}
+use Rattle.std.proofs.lemmas.Result.{IfOk-from_err, err_from_is_err_and}
 use Rattle.sqlite_pool.specs.Pool.{state}
 use Rattle.sqlite_pool.specs.StoredLaws.{Keeps-refl}
 use Rattle.sqlite_sql.specs.Catalog.{entry_of}
@@ -44,7 +44,7 @@ returns-in_err-places-clause-done g c faithful = λ wanted roots was now t w is 
     rw p.1 (memory_fails c.args.file.now c.args.file.now p.0 p.2)
 
 pub returns-in_err-places-clause-usable : goal.returns-in_err-places-clause-usable
-returns-in_err-places-clause-usable g c = λ usable. rw (err_from_is_err_and c.from_residual.result c.from_residual.ensures.1).1 tt
+returns-in_err-places-clause-usable g c = λ usable. IfOk-from_err c.from_residual.result _ c.from_residual.ensures.0
 
 pub returns-in_err-places-clause-keeps : goal.returns-in_err-places-clause-keeps
 returns-in_err-places-clause-keeps g c = Keeps-refl _

@@ -6,7 +6,7 @@ use Rattle.sqlite_trees.proofs.ListLemmas.{map-map}
 use Rattle.sqlite_value.specs.Keys.{plain}
 use Rattle.page_edits.specs.Places.{entries_given, place_all}
 use Rattle.page_files.specs.Held.{Writes}
-use Rattle.std.proofs.lemmas.Result.{err_from_is_err_and}
+use Rattle.std.proofs.lemmas.Result.{IfOk-from_err, err_from_is_err_and}
 use Rattle.page_places.proofs.Failing.{memory_fails, pages_fail}
 use Rattle.line_fills.proofs.Failing.{refused_fails}
 use Rattle.line_fills.specs.Records.{IsWritable}
@@ -48,13 +48,13 @@ returns-clause-done g c faithful = λ wanted roots was now t w is none.
     pages_fail c.args.file.now c.append_entries.new.self c.in-Err.error _ c.error_of.ensures (c.in-Err.ensures.done faithful wanted roots was now t w is (λ k d low. entry_as_given wanted t _ none))
 
 pub returns-in_err-records-clause-usable : goal.returns-in_err-records-clause-usable
-returns-in_err-records-clause-usable g c = rw (err_from_is_err_and c.from_residual.result c.from_residual.ensures.1).1 tt
+returns-in_err-records-clause-usable g c = IfOk-from_err c.from_residual.result _ c.from_residual.ensures.0
 
 pub returns-in_err-records-clause-keeps : goal.returns-in_err-records-clause-keeps
 returns-in_err-records-clause-keeps g c = Keeps-refl _
 
 pub returns-in_err-entries-clause-usable : goal.returns-in_err-entries-clause-usable
-returns-in_err-entries-clause-usable g c = rw (err_from_is_err_and c.from_residual-in_err-entries.result c.from_residual-in_err-entries.ensures.1).1 tt
+returns-in_err-entries-clause-usable g c = IfOk-from_err c.from_residual-in_err-entries.result _ c.from_residual-in_err-entries.ensures.0
 
 pub returns-in_err-entries-clause-keeps : goal.returns-in_err-entries-clause-keeps
 returns-in_err-entries-clause-keeps g c = Keeps-refl _

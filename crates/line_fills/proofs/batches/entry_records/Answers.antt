@@ -1,6 +1,6 @@
 use Rattle.std.proofs.Common.{◌+◌, ◌∷◌, ℕ, get_or, map, pos, take, sym, ap, subst, subst₂, ◌∙◌}
 use Rattle.std.proofs.lemmas.List.{map_more}
-use Rattle.std.proofs.lemmas.Result.{err_from_is_err_and}
+use Rattle.std.proofs.lemmas.Result.{IfOk-from_err, err_from_is_err_and}
 use Rattle.line_fills.specs.Causes.{HasRecord}
 use Rattle.line_fills.proofs.Refused.{one_of_all, refused_for}
 use Rattle.sqlite_sql.specs.Catalog.{entry_of}
@@ -56,10 +56,10 @@ returns-in_err-record-clause-refused g c =
     (c.in_err-record.ensures.refused (entry_of columns (Int (pos (first + place)) ∷ g.L.PageLine.columns x)) c.in_ok-push_entry.ensures.taken))
 
 pub returns-in_err-push_entry-clause-made : goal.returns-in_err-push_entry-clause-made
-returns-in_err-push_entry-clause-made g c = rw (err_from_is_err_and c.from_residual.result c.from_residual.ensures.1).1 tt
+returns-in_err-push_entry-clause-made g c = IfOk-from_err c.from_residual.result _ c.from_residual.ensures.0
 
 pub returns-in_err-record-clause-made : goal.returns-in_err-record-clause-made
-returns-in_err-record-clause-made g c = rw (err_from_is_err_and c.from_residual-in_err-record.result c.from_residual-in_err-record.ensures.1).1 tt
+returns-in_err-record-clause-made g c = IfOk-from_err c.from_residual-in_err-record.result _ c.from_residual-in_err-record.ensures.0
 
 pub returns-in_err-push-clause-made : goal.returns-in_err-push-clause-made
-returns-in_err-push-clause-made g c = rw (err_from_is_err_and c.from_residual-in_err-push.result c.from_residual-in_err-push.ensures.1).1 tt
+returns-in_err-push-clause-made g c = IfOk-from_err c.from_residual-in_err-push.result _ c.from_residual-in_err-push.ensures.0

@@ -1,6 +1,6 @@
 use Rattle.std.proofs.Common.{[], ◌∷◌, ◌++◌, take, arith, sym, ap, subst, ◌∙◌, take_all}
 use Rattle.std.proofs.lemmas.List.{take_more}
-use Rattle.std.proofs.lemmas.Result.{err_from_is_err_and}
+use Rattle.std.proofs.lemmas.Result.{IfOk-from_err, err_from_is_err_and}
 use Rattle.sqlite_value.specs.declared.value.Value.TheVariants.{Null}
 use Rattle.line_fills.specs.Written.{HasValues}
 use Rattle.line_fills.specs.Causes.{IsShort}
@@ -24,4 +24,4 @@ returns-in_err-push-clause-refused g c =
     rw (p.1, p.2) (refused_for _ (λ fits. subst IsShort (sym c.value.ensures) (value_short row c.loop-at.at (omega (arith, c.loop-at-test.true, c.width-at-end.ensures)) fits)) c.in_err-push.ensures.refused)
 
 pub returns-in_err-push-clause-taken : goal.returns-in_err-push-clause-taken
-returns-in_err-push-clause-taken g c = rw (err_from_is_err_and c.from_residual.result c.from_residual.ensures.1).1 tt
+returns-in_err-push-clause-taken g c = IfOk-from_err c.from_residual.result _ c.from_residual.ensures.0

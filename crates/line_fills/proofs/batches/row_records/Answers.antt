@@ -1,6 +1,6 @@
 use Rattle.std.proofs.Common.{◌≡◌, ◌+◌, [], ◌∷◌, ◌++◌, map, take, sym, ap, subst, subst₂, ◌∙◌}
 use Rattle.std.proofs.lemmas.List.{map_more}
-use Rattle.std.proofs.lemmas.Result.{err_from_is_err_and}
+use Rattle.std.proofs.lemmas.Result.{IfOk-from_err, err_from_is_err_and}
 use Rattle.line_fills.specs.Causes.{HasRecord}
 use Rattle.line_fills.proofs.Refused.{one_of_all, refused_for}
 use Rattle.line_fills.specs.Records.{AreRecordsOf}
@@ -33,10 +33,10 @@ returns-in_err-record-clause-refused g c =
     (c.in_err-record.ensures.refused (columns c.line-item.result) c.in_ok-push_columns.ensures.taken))
 
 pub returns-in_err-push_columns-clause-made : goal.returns-in_err-push_columns-clause-made
-returns-in_err-push_columns-clause-made g c = rw (err_from_is_err_and c.from_residual.result c.from_residual.ensures.1).1 tt
+returns-in_err-push_columns-clause-made g c = IfOk-from_err c.from_residual.result _ c.from_residual.ensures.0
 
 pub returns-in_err-record-clause-made : goal.returns-in_err-record-clause-made
-returns-in_err-record-clause-made g c = rw (err_from_is_err_and c.from_residual-in_err-record.result c.from_residual-in_err-record.ensures.1).1 tt
+returns-in_err-record-clause-made g c = IfOk-from_err c.from_residual-in_err-record.result _ c.from_residual-in_err-record.ensures.0
 
 pub returns-in_err-push-clause-made : goal.returns-in_err-push-clause-made
-returns-in_err-push-clause-made g c = rw (err_from_is_err_and c.from_residual-in_err-push.result c.from_residual-in_err-push.ensures.1).1 tt
+returns-in_err-push-clause-made g c = IfOk-from_err c.from_residual-in_err-push.result _ c.from_residual-in_err-push.ensures.0

@@ -1,5 +1,5 @@
 use Rattle.std.proofs.Common.{sym, ◌∙◌, refl, inr}
-use Rattle.std.proofs.lemmas.Result.{err_from_is_err_and}
+use Rattle.std.proofs.lemmas.Result.{IfOk-from_err, err_from_is_err_and}
 use Rattle.sqlite_pool.specs.StoredLaws.{Keeps-trans, Keeps-refl}
 use Rattle.page_files.proofs.Steps.{begins}
 use Rattle.page_places.proofs.Failing.{store_fails_later}
@@ -50,10 +50,10 @@ pub returns-then-not-has_group-clause-keeps : goal.returns-then-not-has_group-cl
 returns-then-not-has_group-clause-keeps g c = Keeps-refl _
 
 pub returns-in_err-erase_members-clause-done : goal.returns-in_err-erase_members-clause-done
-returns-in_err-erase_members-clause-done g c = λ clean wanted known db t rests holds listed are. rw (err_from_is_err_and c.from_residual.result c.from_residual.ensures.1).1 tt
+returns-in_err-erase_members-clause-done g c = λ clean wanted known db t rests holds listed are. IfOk-from_err c.from_residual.result _ c.from_residual.ensures.0
 
 pub returns-in_err-erase_members-clause-usable : goal.returns-in_err-erase_members-clause-usable
-returns-in_err-erase_members-clause-usable g c = rw (err_from_is_err_and c.from_residual.result c.from_residual.ensures.1).1 tt
+returns-in_err-erase_members-clause-usable g c = IfOk-from_err c.from_residual.result _ c.from_residual.ensures.0
 
 pub returns-in_err-erase_members-clause-keeps : goal.returns-in_err-erase_members-clause-keeps
 returns-in_err-erase_members-clause-keeps g c = c.erase_members.ensures.keeps

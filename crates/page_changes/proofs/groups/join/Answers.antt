@@ -1,4 +1,5 @@
-use Rattle.std.proofs.Common.{sym, subst, ◌∙◌, if◌then◌else◌, refl}
+use Rattle.std.proofs.Common.{sym, subst, ◌∙◌, if◌then◌else◌, refl, inr}
+use Rattle.std.proofs.lemmas.Bool.{both_ways}
 use Rattle.plain_tables.specs.Changes.{with_member}
 use Rattle.store_schema.specs.Tables.{Holds}
 use Rattle.page_files.proofs.Steps.{begins}
@@ -7,6 +8,7 @@ use Rattle.page_changes.specs.Causes.{CanTakeIn}
 use Rattle.page_changes.proofs.Failing.{fails_with_more}
 use Rattle.page_changes.proofs.Results.{at_err, given_ok, if_err, when_ok}
 use Rattle.sqlite_pool.specs.StoredLaws.{Keeps-refl}
+use Rattle.page_changes.proofs.groups.join.Goals.{then-not-has_group-via-then-not-has_group, then-not-has_group-via-else-not-has_group+then-not-has_run}
 use Rattle.page_changes.proofs.groups.join.Goals as goal
 
 pub returns-then-has_member-clause-done : goal.returns-then-has_member-clause-done
@@ -47,3 +49,22 @@ returns-then-has_member-clause-usable g c = c.if_usable.ensures.usable
 
 pub returns-then-has_member-clause-keeps : goal.returns-then-has_member-clause-keeps
 returns-then-has_member-clause-keeps g c = Keeps-refl _
+
+pub returns-then-not-has_group-clause-done : goal.returns-then-not-has_group-clause-done
+returns-then-not-has_group-clause-done g c = λ clean wanted known db t rests holds listed are. tt
+
+pub returns-then-not-has_group-clause-usable : goal.returns-then-not-has_group-clause-usable
+returns-then-not-has_group-clause-usable g c = tt
+
+pub returns-then-not-has_group-clause-keeps : goal.returns-then-not-has_group-clause-keeps
+returns-then-not-has_group-clause-keeps g c = Keeps-refl _
+
+pub returns-then-not-has_group-clause-failed : goal.returns-then-not-has_group-clause-failed
+returns-then-not-has_group-clause-failed g c = λ clean wanted known db t rests holds listed are.
+    inr (
+      refl,
+      λ (can : CanTakeIn c.args.file.now c.args.name.now c.args.run t db). elim c.then-not-has_group.branch [
+        | then-not-has_group-via-then-not-has_group w ↦ both_ways _ (sym (c.has_group.ensures.told t listed) ∙ w.if-not-has_group.true) can.grouped
+        | then-not-has_group-via-else-not-has_group+then-not-has_run w ↦ both_ways _ (sym (w.has_run.ensures.told t listed) ∙ w.if-not-has_run.true) can.held
+      ],
+    )

@@ -1,4 +1,5 @@
-use Rattle.std.proofs.Common.{sym, ◌∙◌, refl}
+use Rattle.std.proofs.Common.{sym, ◌∙◌, refl, inr}
+use Rattle.std.proofs.lemmas.Bool.{both_ways}
 use Rattle.page_files.proofs.Steps.{begins}
 use Rattle.page_changes.specs.Causes.{CanMake}
 use Rattle.page_changes.proofs.Failing.{fails_with_more}
@@ -31,3 +32,7 @@ returns-then-has_group-clause-usable g c = tt
 
 pub returns-then-has_group-clause-keeps : goal.returns-then-has_group-clause-keeps
 returns-then-has_group-clause-keeps g c = Keeps-refl _
+
+pub returns-then-has_group-clause-failed : goal.returns-then-has_group-clause-failed
+returns-then-has_group-clause-failed g c = λ clean wanted known db t rests holds listed are.
+    inr (refl, λ (can : CanMake c.args.name.now t db). both_ways _ can.fresh (sym (c.has_group.ensures.told t listed) ∙ c.if-has_group.true))

@@ -3,7 +3,7 @@ use Rattle.sqlite_pool.specs.StoredLaws.{Keeps-trans}
 use Rattle.store_schema.specs.Schema.{schema_two, thread_cell_at, arc_at, stack_at}
 use Rattle.page_changes.proofs.RemovalPlaces.{after, calls_out, cells_out, stacks_out, key_at, table_at}
 use Rattle.page_places.proofs.Outcomes.{match_result}
-use Rattle.std.proofs.lemmas.Result.{err_from_is_err_and}
+use Rattle.std.proofs.lemmas.Result.{IfOk-from_err, err_from_is_err_and}
 use Rattle.page_places.proofs.Failing.{store_fails_later}
 use Rattle.page_changes.proofs.lines.drop_costs.Goals as goal
 
@@ -49,3 +49,15 @@ returns-in_err-erase_run-2-clause-done g c faithful = λ wanted known was now t 
     (λ cells writes_one holds_one. (store_fails_later c.args.file.now c.erase_run.new.file c.erase_run-2.new.file _ c.erase_run.ensures.keeps (λ _. tt) (c.in_err-erase_run-2.ensures.done faithful schema_two wanted known was cells arc_at
     (table_at c.erase_run.new.file writes_one holds_one 6 arc_at refl _ roots.calls (key_at c.erase_run.new.file writes_one holds_one 7 _ refl refl _ roots.call_keys refl, tt))
     ((2 ∷ 3 ∷ 4 ∷ 5 ∷ 6 ∷ 7 ∷ 8 ∷ 9 ∷ [], refl), tt)))))
+
+pub returns-in_err-erase_run-clause-usable : goal.returns-in_err-erase_run-clause-usable
+returns-in_err-erase_run-clause-usable g c = IfOk-from_err c.from_residual.result _ c.from_residual.ensures.0
+
+pub returns-in_err-erase_run-clause-keeps : goal.returns-in_err-erase_run-clause-keeps
+returns-in_err-erase_run-clause-keeps g c = c.erase_run.ensures.keeps
+
+pub returns-in_err-erase_run-2-clause-usable : goal.returns-in_err-erase_run-2-clause-usable
+returns-in_err-erase_run-2-clause-usable g c = IfOk-from_err c.from_residual-in_err-erase_run-2.result _ c.from_residual-in_err-erase_run-2.ensures.0
+
+pub returns-clause-usable : goal.returns-clause-usable
+returns-clause-usable g c = c.erase_run-3.ensures.usable

@@ -1,5 +1,5 @@
 use Rattle.std.proofs.Common.{◌++◌, ◌∷◌, [], ap, refl, sym, subst, ◌∙◌}
-use Rattle.std.proofs.lemmas.Result.{err_from_is_err_and}
+use Rattle.std.proofs.lemmas.Result.{IfOk-from_err, err_from_is_err_and}
 use Rattle.sqlite_rules.specs.Edit.{next_rowid}
 use Rattle.sqlite_trees.specs.declared.store.Shape.TheVariants as shape
 use Rattle.sqlite_trees.specs.View.{IsShaped}
@@ -12,6 +12,7 @@ use Rattle.page_places.proofs.Failing.{memory_fails}
 use Rattle.page_places.specs.Places.{indexes_of}
 use Rattle.page_places.proofs.Outcomes.{match_result}
 use Rattle.page_changes.specs.Causes.{CanFollow}
+use Rattle.sqlite_pool.specs.StoredLaws.{Keeps-refl}
 use Rattle.page_changes.proofs.rows.add_member.Goals as goal
 
 pub returns-clause-done : goal.returns-clause-done
@@ -33,3 +34,15 @@ pub returns-in_err-columns-clause-done : goal.returns-in_err-columns-clause-done
 returns-in_err-columns-clause-done g c clean = λ wanted known was now t writes holds are fact.
     let p = err_from_is_err_and c.from_residual.result c.from_residual.ensures.1 in
     rw (p.1, p.2) (memory_fails c.args.file.now c.args.file.now _ c.in_err-columns.ensures.failed)
+
+pub returns-in_err-columns-clause-usable : goal.returns-in_err-columns-clause-usable
+returns-in_err-columns-clause-usable g c = IfOk-from_err c.from_residual.result _ c.from_residual.ensures.0
+
+pub returns-in_err-columns-clause-keeps : goal.returns-in_err-columns-clause-keeps
+returns-in_err-columns-clause-keeps g c = Keeps-refl _
+
+pub returns-clause-usable : goal.returns-clause-usable
+returns-clause-usable g c = c.put_behind.ensures.usable
+
+pub returns-clause-keeps : goal.returns-clause-keeps
+returns-clause-keeps g c = c.put_behind.ensures.keeps

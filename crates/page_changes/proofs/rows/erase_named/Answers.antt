@@ -1,5 +1,5 @@
 use Rattle.std.proofs.Common.{None, refl, subst, to_z-of_z, inr}
-use Rattle.std.proofs.lemmas.Result.{err_from_is_err_and}
+use Rattle.std.proofs.lemmas.Result.{IfOk-from_err, err_from_is_err_and}
 use Rattle.sqlite_pool.specs.StoredLaws.{Keeps-trans}
 use Rattle.sqlite_trees.specs.Tree.{without_rowid}
 use Rattle.page_files.proofs.Steps.{writes_after}
@@ -58,3 +58,21 @@ returns-in-Err-clause-done g c faithful = λ schema wanted roots was now table s
     let w = writes_after old mid c.find_named.ensures.reads before c.in_ok-row.ensures.usable shows.writes in
     let fails = c.in-Err.ensures.done faithful schema wanted roots was now table (record { writes = w; placed = shows.placed; indexed = shows.indexed }) tt in
     store_fails_later old mid new _ c.find_named.ensures.reads.keeps (λ _. tt) (row_fails mid new c.in-Err.error _ c.error_of_row.ensures fails)
+
+pub returns-in_err-row-clause-usable : goal.returns-in_err-row-clause-usable
+returns-in_err-row-clause-usable g c = IfOk-from_err c.from_residual.result _ c.from_residual.ensures.0
+
+pub returns-in_err-row-clause-keeps : goal.returns-in_err-row-clause-keeps
+returns-in_err-row-clause-keeps g c = c.find_named.ensures.reads.keeps
+
+pub returns-in_default-clause-usable : goal.returns-in_default-clause-usable
+returns-in_default-clause-usable g c = tt
+
+pub returns-in_default-clause-keeps : goal.returns-in_default-clause-keeps
+returns-in_default-clause-keeps g c = c.find_named.ensures.reads.keeps
+
+pub returns-in-Ok-clause-usable : goal.returns-in-Ok-clause-usable
+returns-in-Ok-clause-usable g c = c.in-Ok.ensures.usable
+
+pub returns-in-Err-clause-usable : goal.returns-in-Err-clause-usable
+returns-in-Err-clause-usable g c = tt

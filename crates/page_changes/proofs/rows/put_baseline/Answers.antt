@@ -1,6 +1,6 @@
 use Rattle.std.proofs.Common.{◌≡◌, ℤ, ◌∷◌, [], None, refl, sym, subst, subst₂, to_z-of_z, to_z, of_z, w64, inr}
-use Rattle.std.proofs.lemmas.Result.{err_from_is_err_and}
-use Rattle.sqlite_pool.specs.StoredLaws.{Keeps-trans}
+use Rattle.std.proofs.lemmas.Result.{IfOk-from_err, err_from_is_err_and}
+use Rattle.sqlite_pool.specs.StoredLaws.{Keeps-trans, Keeps-refl}
 use Rattle.sqlite_trees.specs.declared.store.Shape.TheVariants as shape
 use Rattle.sqlite_trees.specs.Tree.{put_row}
 use Rattle.sqlite_trees.specs.View.{IsShaped, IsStorableRow}
@@ -94,3 +94,27 @@ returns-clause-done g c faithful = λ wanted known was now t writes holds are he
     store_fails_later old mid new _ c.find_named.ensures.reads.keeps
     (λ (can : CanPutBaseline name run now). subst₂ (λ (n : ℤ) (r : Row). IsStorableRow 0 (Int n ∷ r)) (sym same) (sym c.in_ok-columns.ensures.made) (can.room row.rowid row.number there.there))
     (row_fails mid new c.in-Err.error _ c.error_of_row.ensures fails)
+
+pub returns-in_err-columns-clause-usable : goal.returns-in_err-columns-clause-usable
+returns-in_err-columns-clause-usable g c = IfOk-from_err c.from_residual.result _ c.from_residual.ensures.0
+
+pub returns-in_err-columns-clause-keeps : goal.returns-in_err-columns-clause-keeps
+returns-in_err-columns-clause-keeps g c = Keeps-refl _
+
+pub returns-in_err-row-clause-usable : goal.returns-in_err-row-clause-usable
+returns-in_err-row-clause-usable g c = IfOk-from_err c.from_residual-in_err-row.result _ c.from_residual-in_err-row.ensures.0
+
+pub returns-in_err-row-clause-keeps : goal.returns-in_err-row-clause-keeps
+returns-in_err-row-clause-keeps g c = c.find_named.ensures.reads.keeps
+
+pub returns-in_default-clause-usable : goal.returns-in_default-clause-usable
+returns-in_default-clause-usable g c = tt
+
+pub returns-in_default-clause-keeps : goal.returns-in_default-clause-keeps
+returns-in_default-clause-keeps g c = c.find_named.ensures.reads.keeps
+
+pub returns-in-Ok-clause-usable : goal.returns-in-Ok-clause-usable
+returns-in-Ok-clause-usable g c = c.in-Ok.ensures.usable
+
+pub returns-clause-usable : goal.returns-clause-usable
+returns-clause-usable g c = tt

@@ -44,3 +44,15 @@ returns-in-Err-insert-clause-done g c faithful = λ schema wanted roots was now 
     store_fails_later old mid new _ c.free_rowid.ensures.reads.keeps
     (λ can. subst (λ z. IsStorableRow 0 (Int z ∷ c.args.columns.now) × AreStorable (Int z ∷ c.args.columns.now) (indexes_of schema table)) (sym (same ∙ told.0)) (can.row, can.entries))
     (row_fails mid new c.in-Err-insert.error _ c.error_of_row-in-Err-insert.ensures fails)
+
+pub returns-in-Err-clause-usable : goal.returns-in-Err-clause-usable
+returns-in-Err-clause-usable g c = tt
+
+pub returns-in-Err-clause-keeps : goal.returns-in-Err-clause-keeps
+returns-in-Err-clause-keeps g c = c.free_rowid.ensures.reads.keeps
+
+pub returns-in-Ok-insert-clause-usable : goal.returns-in-Ok-insert-clause-usable
+returns-in-Ok-insert-clause-usable g c = c.in-Ok-insert.ensures.usable
+
+pub returns-in-Err-insert-clause-usable : goal.returns-in-Err-insert-clause-usable
+returns-in-Err-insert-clause-usable g c = tt

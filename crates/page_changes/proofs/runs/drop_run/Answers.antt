@@ -1,12 +1,13 @@
 use Rattle.std.proofs.Common.{inr, refl, sym, ◌∙◌, true≢false}
-use Rattle.std.proofs.lemmas.Result.{err_from_is_err_and}
-use Rattle.sqlite_pool.specs.StoredLaws.{Keeps-trans}
+use Rattle.std.proofs.lemmas.Result.{IfOk-from_err, err_from_is_err_and}
+use Rattle.sqlite_pool.specs.StoredLaws.{Keeps-trans, Keeps-refl}
 use Rattle.page_files.proofs.Reading.{rests_after}
 use Rattle.page_files.proofs.Steps.{begins}
 use Rattle.page_places.proofs.Outcomes.{match_result}
 use Rattle.page_places.proofs.Failing.{reading_fails, store_fails_later}
 use Rattle.page_places.proofs.Rooting.{store_resting}
 use Rattle.page_changes.specs.Removed.{CanDrop}
+use Rattle.page_changes.proofs.Results.{so_by, so_by_parts}
 use Rattle.page_changes.proofs.runs.drop_run.Goals as goal
 
 pub returns-in_err-drop_events-clause-keeps : goal.returns-in_err-drop_events-clause-keeps
@@ -54,12 +55,11 @@ returns-in_err-drop_costs-clause-done g c faithful = λ wanted known db t rests 
     let read = c.find_roots.new.file in
     let after_one = c.drop_costs.ensures.keeps.stays.clean faithful in
     let before = c.drop_events.ensures.keeps.stays.clean after_one in
-    let roots = c.in_ok-roots.ensures.found before t db known (store_resting old t db known wanted rests holds) in
-    let w = begins read (rests_after old read c.find_roots.ensures.reads before c.in_ok-roots.ensures.usable rests) in
-    let events = c.in_ok-drop_events.ensures.done after_one wanted known db db t w holds roots in
     let keeps = Keeps-trans _ _ _ c.find_roots.ensures.reads.keeps c.drop_events.ensures.keeps in
     let p = err_from_is_err_and c.from_residual-in_err-drop_costs.result c.from_residual-in_err-drop_costs.ensures.1 in
-    rw (p.1, p.2) (store_fails_later old c.drop_events.new.file c.drop_costs.new.file _ keeps (λ _. tt) (c.in_err-drop_costs.ensures.done faithful wanted known db events.0 _ events.1 events.2 roots))
+    rw (p.1, p.2) (so_by (c.in_ok-roots.ensures.found before t db known (store_resting old t db known wanted rests holds)) (λ roots.
+    so_by_parts (c.in_ok-drop_events.ensures.done after_one wanted known db db t (begins read (rests_after old read c.find_roots.ensures.reads before c.in_ok-roots.ensures.usable rests)) holds roots) (λ now_0 writes_0 holds_0.
+    store_fails_later old c.drop_events.new.file c.drop_costs.new.file _ keeps (λ _. tt) (c.in_err-drop_costs.ensures.done faithful wanted known db now_0 _ writes_0 holds_0 roots))))
 
 pub returns-in_err-drop_members-clause-done : goal.returns-in_err-drop_members-clause-done
 returns-in_err-drop_members-clause-done g c faithful = λ wanted known db t rests holds listed.
@@ -68,13 +68,12 @@ returns-in_err-drop_members-clause-done g c faithful = λ wanted known db t rest
     let after_two = c.drop_members.ensures.keeps.stays.clean faithful in
     let after_one = c.drop_costs.ensures.keeps.stays.clean after_two in
     let before = c.drop_events.ensures.keeps.stays.clean after_one in
-    let roots = c.in_ok-roots.ensures.found before t db known (store_resting old t db known wanted rests holds) in
-    let w = begins read (rests_after old read c.find_roots.ensures.reads before c.in_ok-roots.ensures.usable rests) in
-    let events = c.in_ok-drop_events.ensures.done after_one wanted known db db t w holds roots in
-    let costs = c.in_ok-drop_costs.ensures.done after_two wanted known db events.0 _ events.1 events.2 roots in
     let keeps = Keeps-trans _ _ _ (Keeps-trans _ _ _ c.find_roots.ensures.reads.keeps c.drop_events.ensures.keeps) c.drop_costs.ensures.keeps in
     let p = err_from_is_err_and c.from_residual-in_err-drop_members.result c.from_residual-in_err-drop_members.ensures.1 in
-    rw (p.1, p.2) (store_fails_later old c.drop_costs.new.file c.drop_members.new.file _ keeps (λ _. tt) (c.in_err-drop_members.ensures.done faithful wanted known db costs.0 _ costs.1 costs.2 roots))
+    rw (p.1, p.2) (so_by (c.in_ok-roots.ensures.found before t db known (store_resting old t db known wanted rests holds)) (λ roots.
+    so_by_parts (c.in_ok-drop_events.ensures.done after_one wanted known db db t (begins read (rests_after old read c.find_roots.ensures.reads before c.in_ok-roots.ensures.usable rests)) holds roots) (λ now_0 writes_0 holds_0.
+    so_by_parts (c.in_ok-drop_costs.ensures.done after_two wanted known db now_0 _ writes_0 holds_0 roots) (λ now_1 writes_1 holds_1.
+    store_fails_later old c.drop_costs.new.file c.drop_members.new.file _ keeps (λ _. tt) (c.in_err-drop_members.ensures.done faithful wanted known db now_1 _ writes_1 holds_1 roots)))))
 
 pub returns-in_err-clear_baselines-clause-done : goal.returns-in_err-clear_baselines-clause-done
 returns-in_err-clear_baselines-clause-done g c faithful = λ wanted known db t rests holds listed.
@@ -84,14 +83,13 @@ returns-in_err-clear_baselines-clause-done g c faithful = λ wanted known db t r
     let after_two = c.drop_members.ensures.keeps.stays.clean after_three in
     let after_one = c.drop_costs.ensures.keeps.stays.clean after_two in
     let before = c.drop_events.ensures.keeps.stays.clean after_one in
-    let roots = c.in_ok-roots.ensures.found before t db known (store_resting old t db known wanted rests holds) in
-    let w = begins read (rests_after old read c.find_roots.ensures.reads before c.in_ok-roots.ensures.usable rests) in
-    let events = c.in_ok-drop_events.ensures.done after_one wanted known db db t w holds roots in
-    let costs = c.in_ok-drop_costs.ensures.done after_two wanted known db events.0 _ events.1 events.2 roots in
-    let members = c.in_ok-drop_members.ensures.done after_three wanted known db costs.0 _ costs.1 costs.2 roots in
     let keeps = Keeps-trans _ _ _ (Keeps-trans _ _ _ (Keeps-trans _ _ _ c.find_roots.ensures.reads.keeps c.drop_events.ensures.keeps) c.drop_costs.ensures.keeps) c.drop_members.ensures.keeps in
     let p = err_from_is_err_and c.from_residual-in_err-clear_baselines.result c.from_residual-in_err-clear_baselines.ensures.1 in
-    rw (p.1, p.2) (store_fails_later old c.drop_members.new.file c.clear_baselines.new.file _ keeps (λ (can : CanDrop c.args.run t). can.unbased) (c.in_err-clear_baselines.ensures.done faithful wanted known db members.0 _ members.1 members.2 roots))
+    rw (p.1, p.2) (so_by (c.in_ok-roots.ensures.found before t db known (store_resting old t db known wanted rests holds)) (λ roots.
+    so_by_parts (c.in_ok-drop_events.ensures.done after_one wanted known db db t (begins read (rests_after old read c.find_roots.ensures.reads before c.in_ok-roots.ensures.usable rests)) holds roots) (λ now_0 writes_0 holds_0.
+    so_by_parts (c.in_ok-drop_costs.ensures.done after_two wanted known db now_0 _ writes_0 holds_0 roots) (λ now_1 writes_1 holds_1.
+    so_by_parts (c.in_ok-drop_members.ensures.done after_three wanted known db now_1 _ writes_1 holds_1 roots) (λ now_2 writes_2 holds_2.
+    store_fails_later old c.drop_members.new.file c.clear_baselines.new.file _ keeps (λ (can : CanDrop c.args.run t). can.unbased) (c.in_err-clear_baselines.ensures.done faithful wanted known db now_2 _ writes_2 holds_2 roots))))))
 
 pub returns-clause-done : goal.returns-clause-done
 returns-clause-done g c faithful = λ wanted known db t rests holds listed.
@@ -102,12 +100,38 @@ returns-clause-done g c faithful = λ wanted known db t rests holds listed.
     let after_two = c.drop_members.ensures.keeps.stays.clean after_three in
     let after_one = c.drop_costs.ensures.keeps.stays.clean after_two in
     let before = c.drop_events.ensures.keeps.stays.clean after_one in
-    let roots = c.in_ok-roots.ensures.found before t db known (store_resting old t db known wanted rests holds) in
-    let w = begins read (rests_after old read c.find_roots.ensures.reads before c.in_ok-roots.ensures.usable rests) in
-    let events = c.in_ok-drop_events.ensures.done after_one wanted known db db t w holds roots in
-    let costs = c.in_ok-drop_costs.ensures.done after_two wanted known db events.0 _ events.1 events.2 roots in
-    let members = c.in_ok-drop_members.ensures.done after_three wanted known db costs.0 _ costs.1 costs.2 roots in
-    let cleared = c.in_ok-clear_baselines.ensures.done after_four wanted known db members.0 _ members.1 members.2 roots in
     let keeps = Keeps-trans _ _ _ (Keeps-trans _ _ _ (Keeps-trans _ _ _ (Keeps-trans _ _ _ c.find_roots.ensures.reads.keeps c.drop_events.ensures.keeps) c.drop_costs.ensures.keeps) c.drop_members.ensures.keeps) c.clear_baselines.ensures.keeps in
+    so_by (c.in_ok-roots.ensures.found before t db known (store_resting old t db known wanted rests holds)) (λ roots.
+    so_by_parts (c.in_ok-drop_events.ensures.done after_one wanted known db db t (begins read (rests_after old read c.find_roots.ensures.reads before c.in_ok-roots.ensures.usable rests)) holds roots) (λ now_0 writes_0 holds_0.
+    so_by_parts (c.in_ok-drop_costs.ensures.done after_two wanted known db now_0 _ writes_0 holds_0 roots) (λ now_1 writes_1 holds_1.
+    so_by_parts (c.in_ok-drop_members.ensures.done after_three wanted known db now_1 _ writes_1 holds_1 roots) (λ now_2 writes_2 holds_2.
+    so_by_parts (c.in_ok-clear_baselines.ensures.done after_four wanted known db now_2 _ writes_2 holds_2 roots) (λ now_3 writes_3 holds_3.
     match_result c.drop_its_row.result (λ made. made) (λ e. store_fails_later old c.clear_baselines.new.file c.drop_its_row.new.file e keeps (λ _. tt))
-    (c.drop_its_row.ensures.done faithful wanted known db cleared.0 t cleared.1 cleared.2 roots)
+    (c.drop_its_row.ensures.done faithful wanted known db now_3 t writes_3 holds_3 roots))))))
+
+pub returns-then-not-has_run-clause-usable : goal.returns-then-not-has_run-clause-usable
+returns-then-not-has_run-clause-usable g c = tt
+
+pub returns-then-not-has_run-clause-keeps : goal.returns-then-not-has_run-clause-keeps
+returns-then-not-has_run-clause-keeps g c = Keeps-refl _
+
+pub returns-in_err-roots-clause-keeps : goal.returns-in_err-roots-clause-keeps
+returns-in_err-roots-clause-keeps g c = c.find_roots.ensures.reads.keeps
+
+pub returns-in_err-roots-clause-usable : goal.returns-in_err-roots-clause-usable
+returns-in_err-roots-clause-usable g c = IfOk-from_err c.from_residual.result _ c.from_residual.ensures.0
+
+pub returns-in_err-drop_events-clause-usable : goal.returns-in_err-drop_events-clause-usable
+returns-in_err-drop_events-clause-usable g c = IfOk-from_err c.from_residual-in_err-drop_events.result _ c.from_residual-in_err-drop_events.ensures.0
+
+pub returns-in_err-drop_costs-clause-usable : goal.returns-in_err-drop_costs-clause-usable
+returns-in_err-drop_costs-clause-usable g c = IfOk-from_err c.from_residual-in_err-drop_costs.result _ c.from_residual-in_err-drop_costs.ensures.0
+
+pub returns-in_err-drop_members-clause-usable : goal.returns-in_err-drop_members-clause-usable
+returns-in_err-drop_members-clause-usable g c = IfOk-from_err c.from_residual-in_err-drop_members.result _ c.from_residual-in_err-drop_members.ensures.0
+
+pub returns-in_err-clear_baselines-clause-usable : goal.returns-in_err-clear_baselines-clause-usable
+returns-in_err-clear_baselines-clause-usable g c = IfOk-from_err c.from_residual-in_err-clear_baselines.result _ c.from_residual-in_err-clear_baselines.ensures.0
+
+pub returns-clause-usable : goal.returns-clause-usable
+returns-clause-usable g c = c.drop_its_row.ensures.usable

@@ -2,7 +2,7 @@ use Rattle.std.proofs.Common.{◌≡◌, ◌<◌, rules, to_z, of_z, w64, ℤ, p
 use Rattle.std.specs.Borrow.{Bor}
 use Rattle.std.proofs.lemmas.List.{get_or-map, length-map}
 use Rattle.sqlite_pages.specs.declared.error.Error.{Error}
-use Rattle.std.proofs.lemmas.Result.{err_from_is_err_and}
+use Rattle.std.proofs.lemmas.Result.{IfOk-from_err, err_from_is_err_and}
 use Rattle.sqlite_btree.proofs.SpreadLemmas.{no_cell}
 use Rattle.sqlite_trees.specs.Tree.{put_row}
 use Rattle.sqlite_store.specs.Db.{table_row}
@@ -41,10 +41,10 @@ pub returns-in_err-taken-clause-done : goal.returns-in_err-taken-clause-done
 returns-in_err-taken-clause-done g c = λ clean schema t db names same. let p = err_from_is_err_and c.from_residual.result c.from_residual.ensures.1 in rw (p.1, p.2) (c.in_err-taken.ensures.done clean schema t db names same)
 
 pub returns-in_err-taken-clause-within : goal.returns-in_err-taken-clause-within
-returns-in_err-taken-clause-within g c = rw (err_from_is_err_and c.from_residual.result c.from_residual.ensures.1).1 tt
+returns-in_err-taken-clause-within g c = IfOk-from_err c.from_residual.result _ c.from_residual.ensures.0
 
 pub returns-in_err-taken-clause-some : goal.returns-in_err-taken-clause-some
-returns-in_err-taken-clause-some g c = rw (err_from_is_err_and c.from_residual.result c.from_residual.ensures.1).1 tt
+returns-in_err-taken-clause-some g c = IfOk-from_err c.from_residual.result _ c.from_residual.ensures.0
 
 pub returns-in_err-taken-clause-kept : goal.returns-in_err-taken-clause-kept
 returns-in_err-taken-clause-kept g c = c.fill_table.ensures.kept
@@ -62,10 +62,10 @@ pub returns-then-taken-rows-clause-kept : goal.returns-then-taken-rows-clause-ke
 returns-then-taken-rows-clause-kept g c = c.fill_table.ensures.kept
 
 pub returns-in_err-put-clause-within : goal.returns-in_err-put-clause-within
-returns-in_err-put-clause-within g c = rw (err_from_is_err_and c.from_residual-in_err-put.result c.from_residual-in_err-put.ensures.1).1 tt
+returns-in_err-put-clause-within g c = IfOk-from_err c.from_residual-in_err-put.result _ c.from_residual-in_err-put.ensures.0
 
 pub returns-in_err-put-clause-some : goal.returns-in_err-put-clause-some
-returns-in_err-put-clause-some g c = rw (err_from_is_err_and c.from_residual-in_err-put.result c.from_residual-in_err-put.ensures.1).1 tt
+returns-in_err-put-clause-some g c = IfOk-from_err c.from_residual-in_err-put.result _ c.from_residual-in_err-put.ensures.0
 
 pub returns-in_err-put-clause-kept : goal.returns-in_err-put-clause-kept
 returns-in_err-put-clause-kept g c = steps_on g.met.P.Pages.follows_trans c.fill_table.ensures.kept c.put.ensures.kept

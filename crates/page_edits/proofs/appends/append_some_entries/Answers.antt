@@ -2,7 +2,7 @@ use Rattle.std.proofs.Common.{◌≡◌, ◌<◌, ℕ, List, [], length, get_or,
 use Rattle.std.specs.Borrow.{Bor}
 use Rattle.std.proofs.lemmas.List.{get_or-map, length-map}
 use Rattle.sqlite_pages.specs.declared.error.Error.{Error}
-use Rattle.std.proofs.lemmas.Result.{err_from_is_err_and}
+use Rattle.std.proofs.lemmas.Result.{IfOk-from_err, err_from_is_err_and}
 use Rattle.sqlite_btree.proofs.SpreadLemmas.{no_cell}
 use Rattle.sqlite_trees.specs.Tree.{insert_entry}
 use Rattle.sqlite_record.specs.Record.{decode}
@@ -39,10 +39,10 @@ pub returns-in_err-taken-clause-done : goal.returns-in_err-taken-clause-done
 returns-in_err-taken-clause-done g c = λ clean schema t db names same. let p = err_from_is_err_and c.from_residual.result c.from_residual.ensures.1 in rw (p.1, p.2) (c.in_err-taken.ensures.done clean schema t db names same)
 
 pub returns-in_err-taken-clause-within : goal.returns-in_err-taken-clause-within
-returns-in_err-taken-clause-within g c = rw (err_from_is_err_and c.from_residual.result c.from_residual.ensures.1).1 tt
+returns-in_err-taken-clause-within g c = IfOk-from_err c.from_residual.result _ c.from_residual.ensures.0
 
 pub returns-in_err-taken-clause-some : goal.returns-in_err-taken-clause-some
-returns-in_err-taken-clause-some g c = rw (err_from_is_err_and c.from_residual.result c.from_residual.ensures.1).1 tt
+returns-in_err-taken-clause-some g c = IfOk-from_err c.from_residual.result _ c.from_residual.ensures.0
 
 pub returns-in_err-taken-clause-kept : goal.returns-in_err-taken-clause-kept
 returns-in_err-taken-clause-kept g c = c.fill_index.ensures.kept
@@ -60,10 +60,10 @@ pub returns-then-taken-entries-clause-kept : goal.returns-then-taken-entries-cla
 returns-then-taken-entries-clause-kept g c = c.fill_index.ensures.kept
 
 pub returns-in_err-insert_one-clause-within : goal.returns-in_err-insert_one-clause-within
-returns-in_err-insert_one-clause-within g c = rw (err_from_is_err_and c.from_residual-in_err-insert_one.result c.from_residual-in_err-insert_one.ensures.1).1 tt
+returns-in_err-insert_one-clause-within g c = IfOk-from_err c.from_residual-in_err-insert_one.result _ c.from_residual-in_err-insert_one.ensures.0
 
 pub returns-in_err-insert_one-clause-some : goal.returns-in_err-insert_one-clause-some
-returns-in_err-insert_one-clause-some g c = rw (err_from_is_err_and c.from_residual-in_err-insert_one.result c.from_residual-in_err-insert_one.ensures.1).1 tt
+returns-in_err-insert_one-clause-some g c = IfOk-from_err c.from_residual-in_err-insert_one.result _ c.from_residual-in_err-insert_one.ensures.0
 
 pub returns-in_err-insert_one-clause-kept : goal.returns-in_err-insert_one-clause-kept
 returns-in_err-insert_one-clause-kept g c = steps_on g.met.P.Pages.follows_trans c.fill_index.ensures.kept c.insert_one.ensures.kept

@@ -1,5 +1,5 @@
 use Rattle.std.proofs.Common.{suc, arith, ℕ, List}
-use Rattle.std.proofs.lemmas.Result.{err_from_is_err_and}
+use Rattle.std.proofs.lemmas.Result.{IfOk-from_err, err_from_is_err_and}
 use Rattle.sqlite_btree.proofs.Results.{within_limit}
 use Rattle.sqlite_store.proofs.DbLemmas.{named_laid}
 use Rattle.sqlite_store.proofs.OrderLemmas.{strict}
@@ -24,7 +24,7 @@ returns-clause-done g c = λ clean schema t db names same.
     index_filled db c.in_ok-taken.taken c.args.order names c.args.entries.now c.requires.strict same done.1
 
 pub returns-in_err-taken-clause-within : goal.returns-in_err-taken-clause-within
-returns-in_err-taken-clause-within g c = rw (err_from_is_err_and c.from_residual.result c.from_residual.ensures.1).1 tt
+returns-in_err-taken-clause-within g c = IfOk-from_err c.from_residual.result _ c.from_residual.ensures.0
 
 pub returns-in_err-taken-clause-kept : goal.returns-in_err-taken-clause-kept
 returns-in_err-taken-clause-kept g c = c.fill.ensures.kept

@@ -1,5 +1,5 @@
 use Rattle.std.proofs.Common.{suc, arith, ℤ, ℕ, List}
-use Rattle.std.proofs.lemmas.Result.{err_from_is_err_and}
+use Rattle.std.proofs.lemmas.Result.{IfOk-from_err, err_from_is_err_and}
 use Rattle.sqlite_btree.proofs.Results.{within_limit}
 use Rattle.sqlite_store.proofs.DbLemmas.{named_laid}
 use Rattle.page_edits.proofs.Filling.{table_filled}
@@ -24,7 +24,7 @@ returns-clause-done g c = λ clean schema t db names same.
     table_filled db c.in_ok-taken.taken names c.args.rows.now c.requires.strict c.in_ok-taken.ensures.keyed same done.1
 
 pub returns-in_err-taken-clause-within : goal.returns-in_err-taken-clause-within
-returns-in_err-taken-clause-within g c = rw (err_from_is_err_and c.from_residual.result c.from_residual.ensures.1).1 tt
+returns-in_err-taken-clause-within g c = IfOk-from_err c.from_residual.result _ c.from_residual.ensures.0
 
 pub returns-in_err-taken-clause-kept : goal.returns-in_err-taken-clause-kept
 returns-in_err-taken-clause-kept g c = c.fill.ensures.kept

@@ -7,7 +7,7 @@ use Rattle.page_edits.specs.Leaves.{leaf_of, TakesRows}
 use Rattle.page_edits.specs.Rows.{NewRow, entry_from, row_at}
 use Rattle.page_edits.proofs.NewCells.{more_rows, one_more}
 use Rattle.page_edits.proofs.cells.put_rows.Goals.{else-i-gt0-via-then-i-gt0+else-not-follows, else-i-gt0-via-else-i-gt0}
-use Rattle.std.proofs.lemmas.Result.{err_from_is_err_and}
+use Rattle.std.proofs.lemmas.Result.{IfOk-from_err}
 use Rattle.page_edits.proofs.cells.put_rows.Goals as goal
 
 pub loop-i-preserved : goal.loop-i-preserved
@@ -49,16 +49,16 @@ loop-i-preserved g c =
     }
 
 pub returns-in_err-put-clause-within : goal.returns-in_err-put-clause-within
-returns-in_err-put-clause-within g c = rw (err_from_is_err_and c.from_residual.result c.from_residual.ensures.1).1 tt
+returns-in_err-put-clause-within g c = IfOk-from_err c.from_residual.result _ c.from_residual.ensures.0
 
 pub returns-in_err-put-clause-keyed : goal.returns-in_err-put-clause-keyed
-returns-in_err-put-clause-keyed g c = rw (err_from_is_err_and c.from_residual.result c.from_residual.ensures.1).1 tt
+returns-in_err-put-clause-keyed g c = IfOk-from_err c.from_residual.result _ c.from_residual.ensures.0
 
 pub returns-in_err-put-clause-rise : goal.returns-in_err-put-clause-rise
-returns-in_err-put-clause-rise g c = rw (err_from_is_err_and c.from_residual.result c.from_residual.ensures.1).1 tt
+returns-in_err-put-clause-rise g c = IfOk-from_err c.from_residual.result _ c.from_residual.ensures.0
 
 pub returns-in_err-put-clause-done : goal.returns-in_err-put-clause-done
-returns-in_err-put-clause-done g c = λ sound. rw (err_from_is_err_and c.from_residual.result c.from_residual.ensures.1).1 tt
+returns-in_err-put-clause-done g c = λ sound. IfOk-from_err c.from_residual.result _ c.from_residual.ensures.0
 
 pub returns-in_err-put-clause-len : goal.returns-in_err-put-clause-len
 returns-in_err-put-clause-len g c = omega (arith, c.loop-i.auto.bytes, c.put_cell.ensures.len)

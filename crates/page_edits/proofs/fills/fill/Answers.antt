@@ -1,5 +1,5 @@
 use Rattle.std.proofs.Common.{◌≡◌, ◌++◌, ◌≤◌, true, length, sym, ap, subst, subst₂, ◌∙◌, arith, take, List, refl}
-use Rattle.std.proofs.lemmas.Result.{err_from_is_err_and}
+use Rattle.std.proofs.lemmas.Result.{IfOk-from_err, err_from_is_err_and}
 use Rattle.std.proofs.lemmas.Bool.{OnTrue_at}
 use Rattle.sqlite_format.specs.Page.{IsPage, page_cells}
 use Rattle.sqlite_btree.specs.Chain.{Entry}
@@ -121,31 +121,31 @@ pub returns-clause-kept : goal.returns-clause-kept
 returns-clause-kept g c = steps_on g.met.P.Pages.follows_trans (steps_on g.met.P.Pages.follows_trans c.last_below.ensures.kept c.copy.ensures.kept) c.put.ensures.kept
 
 pub returns-in_err-leaf-clause-within : goal.returns-in_err-leaf-clause-within
-returns-in_err-leaf-clause-within g c = rw (err_from_is_err_and c.from_residual.result c.from_residual.ensures.1).1 tt
+returns-in_err-leaf-clause-within g c = IfOk-from_err c.from_residual.result _ c.from_residual.ensures.0
 
 pub returns-in_err-leaf-clause-keyed : goal.returns-in_err-leaf-clause-keyed
-returns-in_err-leaf-clause-keyed g c = rw (err_from_is_err_and c.from_residual.result c.from_residual.ensures.1).1 tt
+returns-in_err-leaf-clause-keyed g c = IfOk-from_err c.from_residual.result _ c.from_residual.ensures.0
 
 pub returns-in_err-bytes-clause-within : goal.returns-in_err-bytes-clause-within
-returns-in_err-bytes-clause-within g c = rw (err_from_is_err_and c.from_residual-in_err-bytes.result c.from_residual-in_err-bytes.ensures.1).1 tt
+returns-in_err-bytes-clause-within g c = IfOk-from_err c.from_residual-in_err-bytes.result _ c.from_residual-in_err-bytes.ensures.0
 
 pub returns-in_err-bytes-clause-keyed : goal.returns-in_err-bytes-clause-keyed
-returns-in_err-bytes-clause-keyed g c = rw (err_from_is_err_and c.from_residual-in_err-bytes.result c.from_residual-in_err-bytes.ensures.1).1 tt
+returns-in_err-bytes-clause-keyed g c = IfOk-from_err c.from_residual-in_err-bytes.result _ c.from_residual-in_err-bytes.ensures.0
 
 pub returns-in_err-starts_after-clause-within : goal.returns-in_err-starts_after-clause-within
-returns-in_err-starts_after-clause-within g c = rw (err_from_is_err_and c.from_residual-in_err-starts_after.result c.from_residual-in_err-starts_after.ensures.1).1 tt
+returns-in_err-starts_after-clause-within g c = IfOk-from_err c.from_residual-in_err-starts_after.result _ c.from_residual-in_err-starts_after.ensures.0
 
 pub returns-in_err-starts_after-clause-keyed : goal.returns-in_err-starts_after-clause-keyed
-returns-in_err-starts_after-clause-keyed g c = rw (err_from_is_err_and c.from_residual-in_err-starts_after.result c.from_residual-in_err-starts_after.ensures.1).1 tt
+returns-in_err-starts_after-clause-keyed g c = IfOk-from_err c.from_residual-in_err-starts_after.result _ c.from_residual-in_err-starts_after.ensures.0
 
 pub returns-in_err-taken-clause-within : goal.returns-in_err-taken-clause-within
-returns-in_err-taken-clause-within g c = rw (err_from_is_err_and c.from_residual-in_err-taken.result c.from_residual-in_err-taken.ensures.1).1 tt
+returns-in_err-taken-clause-within g c = IfOk-from_err c.from_residual-in_err-taken.result _ c.from_residual-in_err-taken.ensures.0
 
 pub returns-in_err-taken-clause-keyed : goal.returns-in_err-taken-clause-keyed
-returns-in_err-taken-clause-keyed g c = rw (err_from_is_err_and c.from_residual-in_err-taken.result c.from_residual-in_err-taken.ensures.1).1 tt
+returns-in_err-taken-clause-keyed g c = IfOk-from_err c.from_residual-in_err-taken.result _ c.from_residual-in_err-taken.ensures.0
 
 pub returns-in_err-put-clause-within : goal.returns-in_err-put-clause-within
-returns-in_err-put-clause-within g c = rw (err_from_is_err_and c.from_residual-in_err-put.result c.from_residual-in_err-put.ensures.1).1 tt
+returns-in_err-put-clause-within g c = IfOk-from_err c.from_residual-in_err-put.result _ c.from_residual-in_err-put.ensures.0
 
 pub returns-in_err-put-clause-keyed : goal.returns-in_err-put-clause-keyed
-returns-in_err-put-clause-keyed g c = rw (err_from_is_err_and c.from_residual-in_err-put.result c.from_residual-in_err-put.ensures.1).1 tt
+returns-in_err-put-clause-keyed g c = IfOk-from_err c.from_residual-in_err-put.result _ c.from_residual-in_err-put.ensures.0

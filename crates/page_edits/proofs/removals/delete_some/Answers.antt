@@ -1,6 +1,6 @@
 use Rattle.std.proofs.Common.{◌≡◌, ◌+◌, ◌++◌, ℤ, pos, [], ◌∷◌, take, get_or, rules, to_z, of_z, w64, Ok, Err, Result, sym, ap, ◌∙◌, arith}
 use Rattle.std.proofs.lemmas.List.{take_more}
-use Rattle.std.proofs.lemmas.Result.{err_from_is_err_and}
+use Rattle.std.proofs.lemmas.Result.{IfOk-from_err, err_from_is_err_and}
 use Rattle.sqlite_pages.specs.declared.error.Error.{Error}
 use Rattle.sqlite_trees.specs.Tree.{without_rowid}
 use Rattle.page_edits.specs.Removals.{without_rowids}
@@ -30,19 +30,19 @@ returns-clause-done g c = λ clean schema t db names.
     (edit_next g.P.Pages c.delete.new.store c.trim_rows.ensures.kept names clean (without_rowids (take n ids)) (without_rowid (to_z w64 (of_z w64 id))) edits (Ok c.in_ok-delete.field-0) c.in_ok-delete.ensures.done)
 
 pub returns-in_err-taken-clause-within : goal.returns-in_err-taken-clause-within
-returns-in_err-taken-clause-within g c = rw (err_from_is_err_and c.from_residual.result c.from_residual.ensures.1).1 tt
+returns-in_err-taken-clause-within g c = IfOk-from_err c.from_residual.result _ c.from_residual.ensures.0
 
 pub returns-in_err-taken-clause-some : goal.returns-in_err-taken-clause-some
-returns-in_err-taken-clause-some g c = rw (err_from_is_err_and c.from_residual.result c.from_residual.ensures.1).1 tt
+returns-in_err-taken-clause-some g c = IfOk-from_err c.from_residual.result _ c.from_residual.ensures.0
 
 pub returns-in_err-taken-clause-kept : goal.returns-in_err-taken-clause-kept
 returns-in_err-taken-clause-kept g c = c.trim_rows.ensures.kept
 
 pub returns-in_err-delete-clause-within : goal.returns-in_err-delete-clause-within
-returns-in_err-delete-clause-within g c = rw (err_from_is_err_and c.from_residual-in_err-delete.result c.from_residual-in_err-delete.ensures.1).1 tt
+returns-in_err-delete-clause-within g c = IfOk-from_err c.from_residual-in_err-delete.result _ c.from_residual-in_err-delete.ensures.0
 
 pub returns-in_err-delete-clause-some : goal.returns-in_err-delete-clause-some
-returns-in_err-delete-clause-some g c = rw (err_from_is_err_and c.from_residual-in_err-delete.result c.from_residual-in_err-delete.ensures.1).1 tt
+returns-in_err-delete-clause-some g c = IfOk-from_err c.from_residual-in_err-delete.result _ c.from_residual-in_err-delete.ensures.0
 
 pub returns-in_err-delete-clause-kept : goal.returns-in_err-delete-clause-kept
 returns-in_err-delete-clause-kept g c = steps_on g.met.P.Pages.follows_trans c.trim_rows.ensures.kept c.delete.ensures.kept

@@ -1,5 +1,5 @@
 use Rattle.std.proofs.Common.{suc, arith, ◌≡◌}
-use Rattle.std.proofs.lemmas.Result.{err_from_is_err_and}
+use Rattle.std.proofs.lemmas.Result.{IfOk-from_err, err_from_is_err_and}
 use Rattle.sqlite_btree.proofs.Results.{within_limit}
 use Rattle.sqlite_btree.specs.Stored.{no_order}
 use Rattle.sqlite_format.specs.declared.kind.Tree.TheVariants as kind
@@ -27,7 +27,7 @@ returns-clause-done g c = λ clean schema t db names.
     (c.in_ok-taken.ensures.done clean no_order no_index (db.layouts (suc t)) table.entries laid.0 (table.stored, table.tight))
 
 pub returns-in_err-taken-clause-few : goal.returns-in_err-taken-clause-few
-returns-in_err-taken-clause-few g c = rw (err_from_is_err_and c.from_residual.result c.from_residual.ensures.1).1 tt
+returns-in_err-taken-clause-few g c = IfOk-from_err c.from_residual.result _ c.from_residual.ensures.0
 
 pub returns-in_err-taken-clause-kept : goal.returns-in_err-taken-clause-kept
 returns-in_err-taken-clause-kept g c = c.trim.ensures.kept

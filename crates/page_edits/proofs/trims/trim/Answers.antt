@@ -1,6 +1,6 @@
 use Rattle.std.proofs.Common.{◌≡◌, [], ◌+◌, ◌-◌, ◌<◌, ◌++◌, true, false, length, take, drop, sym, ap, ap₂, subst, subst₂, refl, ◌∙◌, arith, length-drop, length-append, inl, inr}
 use Rattle.std.proofs.lemmas.Bool.{OnTrue_at}
-use Rattle.std.proofs.lemmas.Result.{err_from_is_err_and}
+use Rattle.std.proofs.lemmas.Result.{IfOk-from_err, err_from_is_err_and}
 use Rattle.sqlite_format.specs.Node.{node_cells}
 use Rattle.sqlite_format.specs.Page.{IsPage, page_cells}
 use Rattle.sqlite_btree.specs.Items.{kind_at}
@@ -155,25 +155,25 @@ pub returns-clause-kept : goal.returns-clause-kept
 returns-clause-kept g c = steps_on g.met.P.Pages.follows_trans (steps_on g.met.P.Pages.follows_trans c.leaf_below.ensures.kept c.copy.ensures.kept) c.put.ensures.kept
 
 pub returns-in_err-leaf-clause-few : goal.returns-in_err-leaf-clause-few
-returns-in_err-leaf-clause-few g c = rw (err_from_is_err_and c.from_residual.result c.from_residual.ensures.1).1 tt
+returns-in_err-leaf-clause-few g c = IfOk-from_err c.from_residual.result _ c.from_residual.ensures.0
 
 pub returns-in_err-bytes-clause-few : goal.returns-in_err-bytes-clause-few
-returns-in_err-bytes-clause-few g c = rw (err_from_is_err_and c.from_residual-in_err-bytes.result c.from_residual-in_err-bytes.ensures.1).1 tt
+returns-in_err-bytes-clause-few g c = IfOk-from_err c.from_residual-in_err-bytes.result _ c.from_residual-in_err-bytes.ensures.0
 
 pub returns-in_err-node-clause-few : goal.returns-in_err-node-clause-few
-returns-in_err-node-clause-few g c = rw (err_from_is_err_and c.from_residual-in_err-node.result c.from_residual-in_err-node.ensures.1).1 tt
+returns-in_err-node-clause-few g c = IfOk-from_err c.from_residual-in_err-node.result _ c.from_residual-in_err-node.ensures.0
 
 pub returns-in_err-count-clause-few : goal.returns-in_err-count-clause-few
-returns-in_err-count-clause-few g c = rw (err_from_is_err_and c.from_residual-in_err-count.result c.from_residual-in_err-count.ensures.1).1 tt
+returns-in_err-count-clause-few g c = IfOk-from_err c.from_residual-in_err-count.result _ c.from_residual-in_err-count.ensures.0
 
 pub returns-in_err-page-clause-few : goal.returns-in_err-page-clause-few
-returns-in_err-page-clause-few g c = rw (err_from_is_err_and c.from_residual-in_err-page.result c.from_residual-in_err-page.ensures.1).1 tt
+returns-in_err-page-clause-few g c = IfOk-from_err c.from_residual-in_err-page.result _ c.from_residual-in_err-page.ensures.0
 
 pub returns-in_err-build_without-clause-few : goal.returns-in_err-build_without-clause-few
-returns-in_err-build_without-clause-few g c = rw (err_from_is_err_and c.from_residual-in_err-build_without.result c.from_residual-in_err-build_without.ensures.1).1 tt
+returns-in_err-build_without-clause-few g c = IfOk-from_err c.from_residual-in_err-build_without.result _ c.from_residual-in_err-build_without.ensures.0
 
 pub returns-in_err-put-clause-few : goal.returns-in_err-put-clause-few
-returns-in_err-put-clause-few g c = rw (err_from_is_err_and c.from_residual-in_err-put.result c.from_residual-in_err-put.ensures.1).1 tt
+returns-in_err-put-clause-few g c = IfOk-from_err c.from_residual-in_err-put.result _ c.from_residual-in_err-put.ensures.0
 
 pub returns-then-count-lt2-clause-few : goal.returns-then-count-lt2-clause-few
 returns-then-count-lt2-clause-few g c = inl refl

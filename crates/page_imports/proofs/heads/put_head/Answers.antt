@@ -1,8 +1,8 @@
 use Rattle.std.proofs.Common.{◌≡◌, ℕ, false, List, [], ◌∷◌, suc, ◌+◌, ◌<◌, map, inr, Err, refl, ap, subst, sym, ◌∙◌, arith}
 use Rattle.std.specs.Prelude.{⊤}
 use Rattle.std.specs.List.{AllByRecursion}
-use Rattle.std.proofs.lemmas.Result.{err_from_is_err_and}
-use Rattle.sqlite_pool.specs.StoredLaws.{Keeps-trans}
+use Rattle.std.proofs.lemmas.Result.{IfOk-from_err, err_from_is_err_and}
+use Rattle.sqlite_pool.specs.StoredLaws.{Keeps-trans, Keeps-refl}
 use Rattle.sqlite_rules.proofs.ListLemmas.{has_got}
 use Rattle.sqlite_trees.proofs.ListLemmas.{all_weaker}
 use Rattle.plain_tables.specs.Changes.{has_run, with_coefs, with_derived, with_events, with_next, with_run}
@@ -230,3 +230,27 @@ pub returns-clause-keeps : goal.returns-clause-keeps
 returns-clause-keeps g c =
     let events = Keeps-trans _ _ _ (Keeps-trans _ _ _ c.put_next.ensures.keeps c.put_run_row.ensures.keeps) c.put_events.ensures.keeps in
     Keeps-trans _ _ _ (Keeps-trans _ _ _ events c.put_derived.ensures.keeps) c.put_coefs.ensures.keeps
+
+pub returns-in_err-put_next-clause-usable : goal.returns-in_err-put_next-clause-usable
+returns-in_err-put_next-clause-usable g c = IfOk-from_err c.from_residual.result _ c.from_residual.ensures.0
+
+pub returns-in_err-put_run_row-clause-usable : goal.returns-in_err-put_run_row-clause-usable
+returns-in_err-put_run_row-clause-usable g c = IfOk-from_err c.from_residual-in_err-put_run_row.result _ c.from_residual-in_err-put_run_row.ensures.0
+
+pub returns-in_err-put_events-clause-usable : goal.returns-in_err-put_events-clause-usable
+returns-in_err-put_events-clause-usable g c = IfOk-from_err c.from_residual-in_err-put_events.result _ c.from_residual-in_err-put_events.ensures.0
+
+pub returns-in_err-put_derived-clause-usable : goal.returns-in_err-put_derived-clause-usable
+returns-in_err-put_derived-clause-usable g c = IfOk-from_err c.from_residual-in_err-put_derived.result _ c.from_residual-in_err-put_derived.ensures.0
+
+pub returns-in_default-clause-usable : goal.returns-in_default-clause-usable
+returns-in_default-clause-usable g c = tt
+
+pub returns-in_default-clause-keeps : goal.returns-in_default-clause-keeps
+returns-in_default-clause-keeps g c = Keeps-refl _
+
+pub returns-in_err-put_next-clause-keeps : goal.returns-in_err-put_next-clause-keeps
+returns-in_err-put_next-clause-keeps g c = c.put_next.ensures.keeps
+
+pub returns-clause-usable : goal.returns-clause-usable
+returns-clause-usable g c = c.put_coefs.ensures.usable

@@ -1,6 +1,6 @@
 use Rattle.std.proofs.Common.{◌≡◌, [], ◌∷◌, ap, inl, refl, subst, sym, ◌∙◌}
 use Rattle.sqlite_rules.specs.Lists.{Has}
-use Rattle.std.proofs.lemmas.Result.{err_from_is_err_and}
+use Rattle.std.proofs.lemmas.Result.{IfOk-from_err, err_from_is_err_and}
 use Rattle.sqlite_trees.specs.Tree.{put_row}
 use Rattle.sqlite_trees.specs.View.{IsShaped}
 use Rattle.sqlite_trees.specs.declared.store.Shape.TheVariants as shape
@@ -14,6 +14,7 @@ use Rattle.page_imports.specs.Causes.{CanBeWritten}
 use Rattle.page_imports.proofs.Failing.{fails_for}
 use Rattle.page_imports.proofs.Kept.{changed_keeps}
 use Rattle.page_imports.proofs.Showing.{next_put, table_at}
+use Rattle.sqlite_pool.specs.StoredLaws.{Keeps-refl}
 use Rattle.page_imports.proofs.heads.put_next.Goals as goal
 
 pub returns-in-Ok-clause-done : goal.returns-in-Ok-clause-done
@@ -44,3 +45,21 @@ pub returns-in_err-columns-clause-done : goal.returns-in_err-columns-clause-done
 returns-in_err-columns-clause-done g c clean = λ wanted known was t shows are above.
     let p = err_from_is_err_and c.from_residual.result c.from_residual.ensures.1 in
     rw p.1 (memory_fails c.args.file.now c.args.file.now p.0 p.2)
+
+pub returns-in_err-columns-clause-usable : goal.returns-in_err-columns-clause-usable
+returns-in_err-columns-clause-usable g c = IfOk-from_err c.from_residual.result _ c.from_residual.ensures.0
+
+pub returns-in_err-columns-clause-keeps : goal.returns-in_err-columns-clause-keeps
+returns-in_err-columns-clause-keeps g c = Keeps-refl _
+
+pub returns-in-Ok-clause-usable : goal.returns-in-Ok-clause-usable
+returns-in-Ok-clause-usable g c = c.in-Ok.ensures.usable
+
+pub returns-in-Ok-clause-keeps : goal.returns-in-Ok-clause-keeps
+returns-in-Ok-clause-keeps g c = c.replace.ensures.keeps
+
+pub returns-clause-usable : goal.returns-clause-usable
+returns-clause-usable g c = tt
+
+pub returns-clause-keeps : goal.returns-clause-keeps
+returns-clause-keeps g c = c.replace.ensures.keeps

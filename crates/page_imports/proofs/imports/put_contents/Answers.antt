@@ -1,6 +1,6 @@
 use Rattle.std.proofs.Common.{◌<◌, subst}
 use Rattle.std.specs.List.{AllByRecursion}
-use Rattle.std.proofs.lemmas.Result.{err_from_is_err_and}
+use Rattle.std.proofs.lemmas.Result.{IfOk-from_err, err_from_is_err_and}
 use Rattle.cost_rows.specs.Rows.{content_of}
 use Rattle.sqlite_pool.specs.StoredLaws.{Keeps-trans}
 use Rattle.page_places.proofs.Failing.{store_fails_later}
@@ -42,3 +42,12 @@ returns-clause-done g c clean = λ wanted known was t shows are can.
 
 pub returns-clause-keeps : goal.returns-clause-keeps
 returns-clause-keeps g c = Keeps-trans _ _ _ c.put_head.ensures.keeps c.put_rows.ensures.keeps
+
+pub returns-in_err-put_head-clause-usable : goal.returns-in_err-put_head-clause-usable
+returns-in_err-put_head-clause-usable g c = IfOk-from_err c.from_residual.result _ c.from_residual.ensures.0
+
+pub returns-in_err-put_head-clause-keeps : goal.returns-in_err-put_head-clause-keeps
+returns-in_err-put_head-clause-keeps g c = c.put_head.ensures.keeps
+
+pub returns-clause-usable : goal.returns-clause-usable
+returns-clause-usable g c = c.put_rows.ensures.usable

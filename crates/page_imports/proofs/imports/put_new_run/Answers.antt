@@ -1,6 +1,6 @@
 use Rattle.std.proofs.Common.{rules, ◌≡◌, ◌<◌, ◌≤◌, ◌^◌, ◌++◌, inr, refl, subst, sym, ◌∙◌, arith}
 use Rattle.std.specs.List.{AllByRecursion}
-use Rattle.std.proofs.lemmas.Result.{err_from_is_err_and}
+use Rattle.std.proofs.lemmas.Result.{IfOk-from_err, err_from_is_err_and}
 use Rattle.cost_rows.specs.Rows.{content_of}
 use Rattle.sqlite_pool.specs.StoredLaws.{Keeps-trans}
 use Rattle.page_files.proofs.Reading.{rests_after}
@@ -65,8 +65,8 @@ pub returns-in_err-lines-clause-done : goal.returns-in_err-lines-clause-done
 returns-in_err-lines-clause-done g c clean = λ wanted known db t rests holds new.
     let file = c.args.file.now in
     let summed = c.args.summed.now in
-    let p = err_from_is_err_and c.from_residual.result c.from_residual.ensures.1 in
-    rw (p.1, p.2) (refuses_fails file file _ (λ (can : CanImport c.args.number c.args.kind c.args.digest.now c.args.label.now summed t db). can.head) (c.in_err-lines.ensures.refused (content_of summed.rows.now) summed.summed))
+    let p = err_from_is_err_and c.from_residual-in_err-lines.result c.from_residual-in_err-lines.ensures.1 in
+    rw (p.1, p.2) (refuses_fails file c.find_roots.new.file _ (λ (can : CanImport c.args.number c.args.kind c.args.digest.now c.args.label.now summed t db). can.head) (c.in_err-lines.ensures.refused (content_of summed.rows.now) summed.summed))
 
 pub returns-in_default-clause-done : goal.returns-in_default-clause-done
 returns-in_default-clause-done g c clean = λ wanted known db t rests holds new.
@@ -79,6 +79,57 @@ pub returns-in_err-roots-clause-done : goal.returns-in_err-roots-clause-done
 returns-in_err-roots-clause-done g c clean = λ wanted known db t rests holds new.
     let file = c.args.file.now in
     let read = c.find_roots.new.file in
-    let p = err_from_is_err_and c.from_residual-in_err-roots.result c.from_residual-in_err-roots.ensures.1 in
+    let p = err_from_is_err_and c.from_residual.result c.from_residual.ensures.1 in
     let why = c.in_err-roots.ensures.failed clean t db known (store_resting file t db known wanted rests holds) in
     rw (p.1, p.2) (reading_fails file read why.0 _ why.2 c.find_roots.ensures.reads.keeps rests.clean.is_open clean why.1)
+
+pub returns-in_err-lines-clause-complete : goal.returns-in_err-lines-clause-complete
+returns-in_err-lines-clause-complete g c = IfOk-from_err c.from_residual-in_err-lines.result _ c.from_residual-in_err-lines.ensures.0
+
+pub returns-in_err-lines-clause-fits : goal.returns-in_err-lines-clause-fits
+returns-in_err-lines-clause-fits g c = IfOk-from_err c.from_residual-in_err-lines.result _ c.from_residual-in_err-lines.ensures.0
+
+pub returns-in_err-lines-clause-counted : goal.returns-in_err-lines-clause-counted
+returns-in_err-lines-clause-counted g c = IfOk-from_err c.from_residual-in_err-lines.result _ c.from_residual-in_err-lines.ensures.0
+
+pub returns-in_err-lines-clause-usable : goal.returns-in_err-lines-clause-usable
+returns-in_err-lines-clause-usable g c = IfOk-from_err c.from_residual-in_err-lines.result _ c.from_residual-in_err-lines.ensures.0
+
+pub returns-in_err-roots-clause-complete : goal.returns-in_err-roots-clause-complete
+returns-in_err-roots-clause-complete g c = IfOk-from_err c.from_residual.result _ c.from_residual.ensures.0
+
+pub returns-in_err-roots-clause-fits : goal.returns-in_err-roots-clause-fits
+returns-in_err-roots-clause-fits g c = IfOk-from_err c.from_residual.result _ c.from_residual.ensures.0
+
+pub returns-in_err-roots-clause-counted : goal.returns-in_err-roots-clause-counted
+returns-in_err-roots-clause-counted g c = IfOk-from_err c.from_residual.result _ c.from_residual.ensures.0
+
+pub returns-in_err-roots-clause-usable : goal.returns-in_err-roots-clause-usable
+returns-in_err-roots-clause-usable g c = IfOk-from_err c.from_residual.result _ c.from_residual.ensures.0
+
+pub returns-in_default-clause-complete : goal.returns-in_default-clause-complete
+returns-in_default-clause-complete g c = tt
+
+pub returns-in_default-clause-fits : goal.returns-in_default-clause-fits
+returns-in_default-clause-fits g c = tt
+
+pub returns-in_default-clause-counted : goal.returns-in_default-clause-counted
+returns-in_default-clause-counted g c = tt
+
+pub returns-in_default-clause-usable : goal.returns-in_default-clause-usable
+returns-in_default-clause-usable g c = tt
+
+pub returns-in_err-lines-clause-keeps : goal.returns-in_err-lines-clause-keeps
+returns-in_err-lines-clause-keeps g c = c.find_roots.ensures.reads.keeps
+
+pub returns-in_default-clause-keeps : goal.returns-in_default-clause-keeps
+returns-in_default-clause-keeps g c = c.find_roots.ensures.reads.keeps
+
+pub returns-in_err-roots-clause-keeps : goal.returns-in_err-roots-clause-keeps
+returns-in_err-roots-clause-keeps g c = c.find_roots.ensures.reads.keeps
+
+pub returns-clause-complete : goal.returns-clause-complete
+returns-clause-complete g c = on_any c.put_contents.result c.in_ok-lines.ensures.column_int
+
+pub returns-clause-usable : goal.returns-clause-usable
+returns-clause-usable g c = c.put_contents.ensures.usable

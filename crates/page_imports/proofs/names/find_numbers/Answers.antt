@@ -3,7 +3,7 @@ use Rattle.std.specs.List.{list_any}
 use Rattle.std.proofs.lemmas.List.{take_more}
 use Rattle.std.proofs.Math.ListN.{take-append-drop}
 use Rattle.std.proofs.Math.Seq.{take-length}
-use Rattle.std.proofs.lemmas.Result.{err_from_is_err_and}
+use Rattle.std.proofs.lemmas.Result.{IfOk-from_err, err_from_is_err_and}
 use Rattle.std.proofs.lemmas.Option.{get_or_from_slice_get}
 use Rattle.page_files.proofs.Reading.{OnlyReads-trans}
 use Rattle.page_imports.specs.Names.{AreNumbered}
@@ -112,3 +112,27 @@ pub returns-in_err-found-clause-told : goal.returns-in_err-found-clause-told
 returns-in_err-found-clause-told g c clean = λ wanted known was t shows are.
     let p = err_from_is_err_and c.from_residual-in_err-found.result c.from_residual-in_err-found.ensures.1 in
     rw p.1 (memory_fails c.args.file.now c.next_name.new.file p.0 p.2)
+
+pub returns-in_err-is_new-clause-usable : goal.returns-in_err-is_new-clause-usable
+returns-in_err-is_new-clause-usable g c = IfOk-from_err c.from_residual.result _ c.from_residual.ensures.0
+
+pub returns-in_err-next-clause-usable : goal.returns-in_err-next-clause-usable
+returns-in_err-next-clause-usable g c = IfOk-from_err c.from_residual-in_err-next.result _ c.from_residual-in_err-next.ensures.0
+
+pub returns-in_err-found-clause-usable : goal.returns-in_err-found-clause-usable
+returns-in_err-found-clause-usable g c = IfOk-from_err c.from_residual-in_err-found.result _ c.from_residual-in_err-found.ensures.0
+
+pub returns-in_err-held-clause-usable : goal.returns-in_err-held-clause-usable
+returns-in_err-held-clause-usable g c = IfOk-from_err c.from_residual-in_err-held.result _ c.from_residual-in_err-held.ensures.0
+
+pub returns-in_err-take-clause-usable : goal.returns-in_err-take-clause-usable
+returns-in_err-take-clause-usable g c = IfOk-from_err c.from_residual-in_err-take.result _ c.from_residual-in_err-take.ensures.0
+
+pub returns-in_err-is_new-clause-reads : goal.returns-in_err-is_new-clause-reads
+returns-in_err-is_new-clause-reads g c = c.holds_none.ensures.reads
+
+pub returns-clause-reads : goal.returns-clause-reads
+returns-clause-reads g c = c.names.invariant.reads
+
+pub returns-clause-usable : goal.returns-clause-usable
+returns-clause-usable g c = c.names.invariant.usable

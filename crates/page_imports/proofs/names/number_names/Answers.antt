@@ -1,5 +1,5 @@
 use Rattle.std.proofs.Common.{ap, sym, subst, ◌∙◌}
-use Rattle.std.proofs.lemmas.Result.{err_from_is_err_and}
+use Rattle.std.proofs.lemmas.Result.{IfOk-from_err, err_from_is_err_and}
 use Rattle.sqlite_pool.specs.StoredLaws.{Keeps-trans}
 use Rattle.page_places.proofs.Failing.{store_fails_later}
 use Rattle.page_imports.specs.Causes.{CanBeNumbered}
@@ -45,3 +45,15 @@ returns-in_err-put_names-clause-keeps g c = Keeps-trans _ _ _ c.find_numbers.ens
 
 pub returns-clause-keeps : goal.returns-clause-keeps
 returns-clause-keeps g c = Keeps-trans _ _ _ c.find_numbers.ensures.reads.keeps c.put_names.ensures.keeps
+
+pub returns-in_err-found-clause-usable : goal.returns-in_err-found-clause-usable
+returns-in_err-found-clause-usable g c = IfOk-from_err c.from_residual.result _ c.from_residual.ensures.0
+
+pub returns-in_err-put_names-clause-usable : goal.returns-in_err-put_names-clause-usable
+returns-in_err-put_names-clause-usable g c = IfOk-from_err c.from_residual-in_err-put_names.result _ c.from_residual-in_err-put_names.ensures.0
+
+pub returns-in_err-found-clause-keeps : goal.returns-in_err-found-clause-keeps
+returns-in_err-found-clause-keeps g c = c.find_numbers.ensures.reads.keeps
+
+pub returns-clause-usable : goal.returns-clause-usable
+returns-clause-usable g c = c.in_ok-put_names.ensures.usable

@@ -1,5 +1,5 @@
 use Rattle.std.proofs.Common.{map, refl, subst, sym, ap, ◌∙◌}
-use Rattle.std.proofs.lemmas.Result.{err_from_is_err_and}
+use Rattle.std.proofs.lemmas.Result.{IfOk-from_err, err_from_is_err_and}
 use Rattle.cost_rows.specs.Rows.{content_of}
 use Rattle.line_fills.specs.Filled.{IsTableFilled}
 use Rattle.line_fills.proofs.Held.{calls_filled}
@@ -13,6 +13,7 @@ use Rattle.page_imports.specs.Causes.{CanBePut, CanPutCalls}
 use Rattle.page_imports.proofs.Failing.{fails_for, refuses_fails}
 use Rattle.page_imports.proofs.Kept.{filled_keeps}
 use Rattle.page_imports.proofs.Showing.{index_at, mapped_twice, table_at}
+use Rattle.sqlite_pool.specs.StoredLaws.{Keeps-refl}
 use Rattle.page_imports.proofs.rows.put_calls.Goals as goal
 
 pub returns-clause-done : goal.returns-clause-done
@@ -41,3 +42,15 @@ returns-in_err-lines-clause-done g c clean = λ wanted known was t shows are can
     let file = c.args.file.now in
     let p = err_from_is_err_and c.from_residual.result c.from_residual.ensures.1 in
     rw (p.1, p.2) (refuses_fails file file _ (λ (can : CanPutCalls run c.args.numbers.now (content_of c.args.rows.now).calls shows.next). can.fit) c.in_err-lines.ensures.refused)
+
+pub returns-in_err-lines-clause-usable : goal.returns-in_err-lines-clause-usable
+returns-in_err-lines-clause-usable g c = IfOk-from_err c.from_residual.result _ c.from_residual.ensures.0
+
+pub returns-in_err-lines-clause-keeps : goal.returns-in_err-lines-clause-keeps
+returns-in_err-lines-clause-keeps g c = Keeps-refl _
+
+pub returns-clause-usable : goal.returns-clause-usable
+returns-clause-usable g c = c.fill.ensures.usable
+
+pub returns-clause-keeps : goal.returns-clause-keeps
+returns-clause-keeps g c = c.fill.ensures.keeps

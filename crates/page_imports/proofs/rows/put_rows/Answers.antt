@@ -1,5 +1,5 @@
 use Rattle.std.proofs.Common.{◌≡◌, ℕ, List, [], ◌∷◌, Result, MatchResult, map, refl, ap, ap₂, subst, sym, ◌∙◌}
-use Rattle.std.proofs.lemmas.Result.{err_from_is_err_and}
+use Rattle.std.proofs.lemmas.Result.{IfOk-from_err, err_from_is_err_and}
 use Rattle.cost_rows.specs.Content.{Content}
 use Rattle.cost_rows.specs.Rows.{content_of}
 use Rattle.sqlite_disk.specs.declared.Disk.{Ghosts}
@@ -154,3 +154,18 @@ returns-in_err-put_calls-clause-keeps g c = Keeps-trans _ _ _ (Keeps-trans _ _ _
 
 pub returns-clause-keeps : goal.returns-clause-keeps
 returns-clause-keeps g c = Keeps-trans _ _ _ (Keeps-trans _ _ _ (Keeps-trans _ _ _ c.number_names.ensures.keeps c.put_cells.ensures.keeps) c.put_calls.ensures.keeps) c.put_stacks.ensures.keeps
+
+pub returns-in_err-numbers-clause-usable : goal.returns-in_err-numbers-clause-usable
+returns-in_err-numbers-clause-usable g c = IfOk-from_err c.from_residual.result _ c.from_residual.ensures.0
+
+pub returns-in_err-put_cells-clause-usable : goal.returns-in_err-put_cells-clause-usable
+returns-in_err-put_cells-clause-usable g c = IfOk-from_err c.from_residual-in_err-put_cells.result _ c.from_residual-in_err-put_cells.ensures.0
+
+pub returns-in_err-put_calls-clause-usable : goal.returns-in_err-put_calls-clause-usable
+returns-in_err-put_calls-clause-usable g c = IfOk-from_err c.from_residual-in_err-put_calls.result _ c.from_residual-in_err-put_calls.ensures.0
+
+pub returns-in_err-numbers-clause-keeps : goal.returns-in_err-numbers-clause-keeps
+returns-in_err-numbers-clause-keeps g c = c.number_names.ensures.keeps
+
+pub returns-clause-usable : goal.returns-clause-usable
+returns-clause-usable g c = c.put_stacks.ensures.usable

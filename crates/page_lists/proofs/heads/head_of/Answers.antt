@@ -1,5 +1,5 @@
 use Rattle.std.proofs.Common.{◌==◌, ℕ, map, sym, subst, ◌∙◌, IsPermutation}
-use Rattle.std.proofs.lemmas.Result.{IfOk-weaker}
+use Rattle.std.proofs.lemmas.Result.{err_from_is_err_and, IfOk-weaker}
 use Rattle.plain_tables.specs.Tables.{EventRow, DerivedRow, CoefRow}
 use Rattle.run_stores.specs.HeldHeads.{coef_of_line, event_of_line, name_of_line}
 use Rattle.held_lines.specs.HeadLines.{derived_place, entry_of_coef, entry_of_event}
@@ -23,3 +23,15 @@ returns c t listed =
     IfOk-weaker c.head_in.result _ _ (λ head read.
     head_told t lists listed run head c.in_ok-events.events.items c.in_ok-derived.derived.items c.in_ok-coefs.coefs.items held
     (read_from_same head _ _ _ _ _ _ c.deref-2.ensures.value c.deref-3.ensures.value c.deref-4.ensures.value read) events derived coefs) c.head_in.ensures.read
+
+pub returns-then-not-is_listed : goal.returns-then-not-is_listed
+returns-then-not-is_listed c = λ t listed. tt
+
+pub returns-in_err-events : goal.returns-in_err-events
+returns-in_err-events c = λ t listed. rw (err_from_is_err_and c.from_residual.result c.from_residual.ensures.1).1 tt
+
+pub returns-in_err-derived : goal.returns-in_err-derived
+returns-in_err-derived c = λ t listed. rw (err_from_is_err_and c.from_residual-in_err-derived.result c.from_residual-in_err-derived.ensures.1).1 tt
+
+pub returns-in_err-coefs : goal.returns-in_err-coefs
+returns-in_err-coefs c = λ t listed. rw (err_from_is_err_and c.from_residual-in_err-coefs.result c.from_residual-in_err-coefs.ensures.1).1 tt

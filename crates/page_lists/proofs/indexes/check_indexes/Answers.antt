@@ -1,4 +1,4 @@
-use Rattle.std.proofs.lemmas.Result.{on_ok_weaker}
+use Rattle.std.proofs.lemmas.Result.{err_from_is_err_and, on_ok_weaker}
 use Rattle.page_lists.proofs.Chains.{◌⊳◌}
 use Rattle.page_lists.proofs.Indexed.{derived_before, groups_before}
 use Rattle.page_lists.proofs.indexes.check_indexes.Goals as goal
@@ -21,3 +21,21 @@ returns-clause-same g c =
       derived = derived_before _ _ first.reads (c.in_ok-check_derived.ensures.same earlier);
       groups = groups_before _ _ (first.reads ⊳ next.reads) (same faithful);
     }) last.same
+
+pub returns-in_err-check_events-clause-same : goal.returns-in_err-check_events-clause-same
+returns-in_err-check_events-clause-same g c = IfOk-from_err c.from_residual.result _ c.from_residual.ensures.0
+
+pub returns-in_err-check_events-clause-usable : goal.returns-in_err-check_events-clause-usable
+returns-in_err-check_events-clause-usable g c = IfOk-from_err c.from_residual.result _ c.from_residual.ensures.0
+
+pub returns-in_err-check_derived-clause-same : goal.returns-in_err-check_derived-clause-same
+returns-in_err-check_derived-clause-same g c = IfOk-from_err c.from_residual-in_err-check_derived.result _ c.from_residual-in_err-check_derived.ensures.0
+
+pub returns-in_err-check_derived-clause-usable : goal.returns-in_err-check_derived-clause-usable
+returns-in_err-check_derived-clause-usable g c = IfOk-from_err c.from_residual-in_err-check_derived.result _ c.from_residual-in_err-check_derived.ensures.0
+
+pub returns-in_err-check_events-clause-reads : goal.returns-in_err-check_events-clause-reads
+returns-in_err-check_events-clause-reads g c = c.check_events.ensures.reads
+
+pub returns-clause-usable : goal.returns-clause-usable
+returns-clause-usable g c = c.check_groups.ensures.usable

@@ -1,5 +1,6 @@
 use Rattle.page_lists.proofs.Columns.{coefs_told, derived_told, events_told, groups_told, members_told, meta_held, runs_told}
 use Rattle.std.proofs.Common.{map, ap, subst, ◌∙◌}
+use Rattle.std.proofs.lemmas.Result.{IfOk-from_err}
 use Rattle.run_lists.specs.Listed.{coef_row, derived_row, event_row}
 use Rattle.page_lists.proofs.Chains.{◌⊳◌}
 use Rattle.page_lists.proofs.Shows.{shows_after}
@@ -52,3 +53,51 @@ returns-clause-listed g c members = λ t db holds roots.
       groups = groups_told holds _ (c.in_ok-groups.ensures.read groups _ (shows_after _ _ _ _ to_groups roots.groups));
       members = members_told holds _ (c.in_ok-members.ensures.read members _ (shows_after _ _ _ _ to_members roots.members));
     }
+
+pub returns-in_err-next-clause-listed : goal.returns-in_err-next-clause-listed
+returns-in_err-next-clause-listed g c = λ faithful t db holds roots. IfOk-from_err c.from_residual.result _ c.from_residual.ensures.0
+
+pub returns-in_err-next-clause-usable : goal.returns-in_err-next-clause-usable
+returns-in_err-next-clause-usable g c = IfOk-from_err c.from_residual.result _ c.from_residual.ensures.0
+
+pub returns-in_err-runs-clause-listed : goal.returns-in_err-runs-clause-listed
+returns-in_err-runs-clause-listed g c = λ faithful t db holds roots. IfOk-from_err c.from_residual-in_err-runs.result _ c.from_residual-in_err-runs.ensures.0
+
+pub returns-in_err-runs-clause-usable : goal.returns-in_err-runs-clause-usable
+returns-in_err-runs-clause-usable g c = IfOk-from_err c.from_residual-in_err-runs.result _ c.from_residual-in_err-runs.ensures.0
+
+pub returns-in_err-events-clause-listed : goal.returns-in_err-events-clause-listed
+returns-in_err-events-clause-listed g c = λ faithful t db holds roots. IfOk-from_err c.from_residual-in_err-events.result _ c.from_residual-in_err-events.ensures.0
+
+pub returns-in_err-events-clause-usable : goal.returns-in_err-events-clause-usable
+returns-in_err-events-clause-usable g c = IfOk-from_err c.from_residual-in_err-events.result _ c.from_residual-in_err-events.ensures.0
+
+pub returns-in_err-derived-clause-listed : goal.returns-in_err-derived-clause-listed
+returns-in_err-derived-clause-listed g c = λ faithful t db holds roots. IfOk-from_err c.from_residual-in_err-derived.result _ c.from_residual-in_err-derived.ensures.0
+
+pub returns-in_err-derived-clause-usable : goal.returns-in_err-derived-clause-usable
+returns-in_err-derived-clause-usable g c = IfOk-from_err c.from_residual-in_err-derived.result _ c.from_residual-in_err-derived.ensures.0
+
+pub returns-in_err-coefs-clause-listed : goal.returns-in_err-coefs-clause-listed
+returns-in_err-coefs-clause-listed g c = λ faithful t db holds roots. IfOk-from_err c.from_residual-in_err-coefs.result _ c.from_residual-in_err-coefs.ensures.0
+
+pub returns-in_err-coefs-clause-usable : goal.returns-in_err-coefs-clause-usable
+returns-in_err-coefs-clause-usable g c = IfOk-from_err c.from_residual-in_err-coefs.result _ c.from_residual-in_err-coefs.ensures.0
+
+pub returns-in_err-groups-clause-listed : goal.returns-in_err-groups-clause-listed
+returns-in_err-groups-clause-listed g c = λ faithful t db holds roots. IfOk-from_err c.from_residual-in_err-groups.result _ c.from_residual-in_err-groups.ensures.0
+
+pub returns-in_err-groups-clause-usable : goal.returns-in_err-groups-clause-usable
+returns-in_err-groups-clause-usable g c = IfOk-from_err c.from_residual-in_err-groups.result _ c.from_residual-in_err-groups.ensures.0
+
+pub returns-in_err-members-clause-listed : goal.returns-in_err-members-clause-listed
+returns-in_err-members-clause-listed g c = λ faithful t db holds roots. IfOk-from_err c.from_residual-in_err-members.result _ c.from_residual-in_err-members.ensures.0
+
+pub returns-in_err-members-clause-usable : goal.returns-in_err-members-clause-usable
+returns-in_err-members-clause-usable g c = IfOk-from_err c.from_residual-in_err-members.result _ c.from_residual-in_err-members.ensures.0
+
+pub returns-in_err-next-clause-reads : goal.returns-in_err-next-clause-reads
+returns-in_err-next-clause-reads g c = c.next_run.ensures.reads
+
+pub returns-clause-usable : goal.returns-clause-usable
+returns-clause-usable g c = c.in_ok-members.ensures.usable

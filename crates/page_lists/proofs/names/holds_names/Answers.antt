@@ -1,5 +1,6 @@
 use Rattle.std.proofs.Common.{◌≡◌, ◌↔◌, true, Bool, map, filter, take, ap, sym, subst, ◌∙◌}
 use Rattle.std.specs.List.{AllByRecursion}
+use Rattle.std.proofs.lemmas.Result.{IfOk-from_err}
 use Rattle.run_stores.specs.Book.{IsHeld}
 use Rattle.page_lists.specs.Among.{Rise, is_among}
 use Rattle.page_lists.proofs.Among.{shown_rise}
@@ -14,3 +15,12 @@ returns-clause-read g c faithful rows is names are =
     let items = found ∙ numbers_are numbers names c.in_ok-found.found.items read in
     let rises = found_rise numbers names c.deref.result.now items (subst Rise are (shown_rise _ _ rows is)) in
     subst (λ (b : Bool). (b ≡ true) ↔ AllByRecursion (IsHeld names) numbers) (sym (c.has_all.ensures rises)) (all_held numbers names c.deref.result.now items)
+
+pub returns-in_err-found-clause-read : goal.returns-in_err-found-clause-read
+returns-in_err-found-clause-read g c = λ faithful rows is names are. IfOk-from_err c.from_residual.result _ c.from_residual.ensures.0
+
+pub returns-in_err-found-clause-reads : goal.returns-in_err-found-clause-reads
+returns-in_err-found-clause-reads g c = c.rows_among.ensures.reads
+
+pub returns-clause-reads : goal.returns-clause-reads
+returns-clause-reads g c = c.rows_among.ensures.reads

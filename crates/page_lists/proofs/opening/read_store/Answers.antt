@@ -1,3 +1,4 @@
+use Rattle.std.proofs.lemmas.Result.{IfOk-from_err}
 use Rattle.page_lists.proofs.Chains.{◌⊳◌}
 use Rattle.page_places.proofs.Rooting.{store_after}
 use Rattle.page_lists.proofs.Indexed.{indexed_before}
@@ -28,3 +29,57 @@ returns-in-Err-clause-reads g c = c.find_tables.ensures.reads ⊳ c.find_roots.e
 pub returns-in-Ok-clause-indexed : goal.returns-in-Ok-clause-indexed
 returns-in-Ok-clause-indexed g c faithful =
     indexed_before _ _ (c.find_tables.ensures.reads ⊳ c.find_roots.ensures.reads ⊳ c.read_lists.ensures.reads) (c.in-Ok.ensures.same faithful)
+
+pub returns-in_err-find_tables-clause-read : goal.returns-in_err-find_tables-clause-read
+returns-in_err-find_tables-clause-read g c = λ faithful t db known is. IfOk-from_err c.from_residual.result _ c.from_residual.ensures.0
+
+pub returns-in_err-find_tables-clause-indexed : goal.returns-in_err-find_tables-clause-indexed
+returns-in_err-find_tables-clause-indexed g c = IfOk-from_err c.from_residual.result _ c.from_residual.ensures.0
+
+pub returns-in_err-find_tables-clause-usable : goal.returns-in_err-find_tables-clause-usable
+returns-in_err-find_tables-clause-usable g c = IfOk-from_err c.from_residual.result _ c.from_residual.ensures.0
+
+pub returns-in_err-is_alone-clause-read : goal.returns-in_err-is_alone-clause-read
+returns-in_err-is_alone-clause-read g c = λ faithful t db known is. IfOk-from_err c.from_residual-in_err-is_alone.result _ c.from_residual-in_err-is_alone.ensures.0
+
+pub returns-in_err-is_alone-clause-indexed : goal.returns-in_err-is_alone-clause-indexed
+returns-in_err-is_alone-clause-indexed g c = IfOk-from_err c.from_residual-in_err-is_alone.result _ c.from_residual-in_err-is_alone.ensures.0
+
+pub returns-in_err-is_alone-clause-usable : goal.returns-in_err-is_alone-clause-usable
+returns-in_err-is_alone-clause-usable g c = IfOk-from_err c.from_residual-in_err-is_alone.result _ c.from_residual-in_err-is_alone.ensures.0
+
+pub returns-in_err-roots-clause-read : goal.returns-in_err-roots-clause-read
+returns-in_err-roots-clause-read g c = λ faithful t db known is. IfOk-from_err c.from_residual-in_err-roots.result _ c.from_residual-in_err-roots.ensures.0
+
+pub returns-in_err-roots-clause-indexed : goal.returns-in_err-roots-clause-indexed
+returns-in_err-roots-clause-indexed g c = IfOk-from_err c.from_residual-in_err-roots.result _ c.from_residual-in_err-roots.ensures.0
+
+pub returns-in_err-roots-clause-usable : goal.returns-in_err-roots-clause-usable
+returns-in_err-roots-clause-usable g c = IfOk-from_err c.from_residual-in_err-roots.result _ c.from_residual-in_err-roots.ensures.0
+
+pub returns-in_err-lists-clause-read : goal.returns-in_err-lists-clause-read
+returns-in_err-lists-clause-read g c = λ faithful t db known is. IfOk-from_err c.from_residual-in_err-lists.result _ c.from_residual-in_err-lists.ensures.0
+
+pub returns-in_err-lists-clause-indexed : goal.returns-in_err-lists-clause-indexed
+returns-in_err-lists-clause-indexed g c = IfOk-from_err c.from_residual-in_err-lists.result _ c.from_residual-in_err-lists.ensures.0
+
+pub returns-in_err-lists-clause-usable : goal.returns-in_err-lists-clause-usable
+returns-in_err-lists-clause-usable g c = IfOk-from_err c.from_residual-in_err-lists.result _ c.from_residual-in_err-lists.ensures.0
+
+pub returns-in_err-find_tables-clause-reads : goal.returns-in_err-find_tables-clause-reads
+returns-in_err-find_tables-clause-reads g c = c.find_tables.ensures.reads
+
+pub returns-in_err-is_alone-clause-reads : goal.returns-in_err-is_alone-clause-reads
+returns-in_err-is_alone-clause-reads g c = c.find_tables.ensures.reads
+
+pub returns-in-Err-clause-read : goal.returns-in-Err-clause-read
+returns-in-Err-clause-read g c = λ faithful t db known is. tt
+
+pub returns-in-Err-clause-indexed : goal.returns-in-Err-clause-indexed
+returns-in-Err-clause-indexed g c = tt
+
+pub returns-in-Err-clause-usable : goal.returns-in-Err-clause-usable
+returns-in-Err-clause-usable g c = tt
+
+pub returns-in-Ok-clause-usable : goal.returns-in-Ok-clause-usable
+returns-in-Ok-clause-usable g c = c.in-Ok.ensures.usable

@@ -2,6 +2,7 @@ use Rattle.std.proofs.Common.{◌≡◌, ◌++◌, ◌-◌, [], map, filter, len
 use Rattle.std.proofs.lemmas.List.{map-append}
 use Rattle.std.proofs.lemmas.List.Sorted.{IsNonDecreasingBy-drop, IsNonDecreasingBy-take}
 use Rattle.std.proofs.Math.Seq.{take-length}
+use Rattle.std.proofs.lemmas.Result.{IfOk-from_err}
 use Rattle.page_files.proofs.Reading.{OnlyReads-trans}
 use Rattle.page_lists.specs.Among.{is_among}
 use Rattle.page_lists.proofs.Among.{among_group, among_none, shown_rise}
@@ -47,3 +48,9 @@ returns-clause-read g c up faithful rows is =
     let numbers = c.args.sorted.now in
     let all : c.groups.at ≡ length numbers = omega arith in
     c.groups.invariant.read up faithful rows is ∙ ap (λ ns. map l.seen (filter (is_among ns) rows)) (ap (λ n. take n numbers) all ∙ take-length numbers)
+
+pub returns-in_err-lines-clause-read : goal.returns-in_err-lines-clause-read
+returns-in_err-lines-clause-read g c = λ up faithful rows is. IfOk-from_err c.from_residual.result _ c.from_residual.ensures.0
+
+pub returns-clause-reads : goal.returns-clause-reads
+returns-clause-reads g c = c.groups.invariant.reads

@@ -1,5 +1,6 @@
 use Rattle.std.proofs.Common.{◌≡◌, ◌≤◌, ◌<◌, ◌++◌, ℕ, pos, w64, of_z, to_z, map, filter, length, get_or, ap, ap₂, subst, sym, refl, inl, inr, ◌∙◌, to_z-of_z, arith, append-nil, rules, SFits}
 use Rattle.page_rows.specs.Rows.{from_rowid}
+use Rattle.page_files.proofs.Reading.{OnlyReads-refl}
 use Rattle.page_lists.specs.Among.{Rise, is_among}
 use Rattle.page_lists.proofs.Among.{among_from, among_none, nothing_taken, rise_from, rise_front, shown_numbered, shown_rise, taken_all}
 use Rattle.page_lists.proofs.some_rows.with_group.Goals as goal
@@ -29,3 +30,15 @@ returns-in-Ok-clause-read g c up faithful rows is =
           taken_all l.columns l.seen group before up front rest c.walk.new.sink.lines.items rises (ends up (rise_front front rest rises))
           ∙ ap (λ list. before ++ map l.seen (filter (is_among group) list)) (sym whole) ∙ all
     ]
+
+pub returns-in_default-clause-reads : goal.returns-in_default-clause-reads
+returns-in_default-clause-reads g c = OnlyReads-refl _
+
+pub returns-in-Ok-clause-reads : goal.returns-in-Ok-clause-reads
+returns-in-Ok-clause-reads g c = c.walk.ensures.reads
+
+pub returns-in-Err-clause-read : goal.returns-in-Err-clause-read
+returns-in-Err-clause-read g c up faithful rows is = tt
+
+pub returns-in-Err-clause-reads : goal.returns-in-Err-clause-reads
+returns-in-Err-clause-reads g c = c.walk.ensures.reads

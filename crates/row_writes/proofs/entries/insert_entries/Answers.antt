@@ -1,5 +1,5 @@
 use Rattle.std.proofs.Common.{◌≡◌, ◌<◌, length, sym, subst, arith}
-use Rattle.std.proofs.lemmas.Result.{err_from_is_err_and}
+use Rattle.std.proofs.lemmas.Result.{IfOk-from_err, err_from_is_err_and}
 use Rattle.sqlite_pool.specs.Pool.{state}
 use Rattle.sqlite_pool.specs.StoredLaws.{Keeps-refl, Keeps-trans}
 use Rattle.sqlite_record.specs.Affinity.{widen}
@@ -73,10 +73,10 @@ pub returns-in_err-make_entry-clause-done : goal.returns-in_err-make_entry-claus
 returns-in_err-make_entry-clause-done g c = λ faithful wanted roots was now indexes w all. let p = err_from_is_err_and c.from_residual.result c.from_residual.ensures.1 in rw (p.1, p.2) tt
 
 pub returns-in_err-make_entry-clause-usable : goal.returns-in_err-make_entry-clause-usable
-returns-in_err-make_entry-clause-usable g c = λ usable. rw (err_from_is_err_and c.from_residual.result c.from_residual.ensures.1).1 tt
+returns-in_err-make_entry-clause-usable g c = λ usable. IfOk-from_err c.from_residual.result _ c.from_residual.ensures.0
 
 pub returns-in_err-write_record-clause-usable : goal.returns-in_err-write_record-clause-usable
-returns-in_err-write_record-clause-usable g c = λ usable. rw (err_from_is_err_and c.from_residual-in_err-write_record.result c.from_residual-in_err-write_record.ensures.1).1 tt
+returns-in_err-write_record-clause-usable g c = λ usable. IfOk-from_err c.from_residual-in_err-write_record.result _ c.from_residual-in_err-write_record.ensures.0
 
 pub returns-in_err-insert-clause-usable : goal.returns-in_err-insert-clause-usable
-returns-in_err-insert-clause-usable g c = λ usable. rw (err_from_is_err_and c.from_residual-in_err-insert.result c.from_residual-in_err-insert.ensures.1).1 tt
+returns-in_err-insert-clause-usable g c = λ usable. IfOk-from_err c.from_residual-in_err-insert.result _ c.from_residual-in_err-insert.ensures.0

@@ -1,5 +1,5 @@
 use Rattle.std.proofs.Common.{◌≡◌, ℕ, ℤ, List, ◌∷◌, true, false, ap, subst, ◌∙◌, to_z-of_z, to_z, of_z, w64}
-use Rattle.std.proofs.lemmas.Result.{err_from_is_err_and}
+use Rattle.std.proofs.lemmas.Result.{IfOk-from_err, err_from_is_err_and}
 use Rattle.std.specs.Prelude.{⊤}
 use Rattle.sqlite_pool.specs.StoredLaws.{Keeps-trans}
 use Rattle.sqlite_record.specs.Record.{decode}
@@ -81,7 +81,7 @@ returns-clause-done g c faithful = λ schema wanted roots was now table shows an
     (c.remove_entries.ensures.done faithful wanted roots was trees indexes first at.indexes)
 
 pub returns-in_err-find_row-clause-usable : goal.returns-in_err-find_row-clause-usable
-returns-in_err-find_row-clause-usable g c = rw (err_from_is_err_and c.from_residual.result c.from_residual.ensures.1).1 tt
+returns-in_err-find_row-clause-usable g c = IfOk-from_err c.from_residual.result _ c.from_residual.ensures.0
 
 pub returns-in_err-find_row-clause-keeps : goal.returns-in_err-find_row-clause-keeps
 returns-in_err-find_row-clause-keeps g c = c.find_row.ensures.reads.keeps
@@ -93,13 +93,13 @@ pub returns-then-not-branch-clause-keeps : goal.returns-then-not-branch-clause-k
 returns-then-not-branch-clause-keeps g c = c.find_row.ensures.reads.keeps
 
 pub returns-in_err-read_row-clause-usable : goal.returns-in_err-read_row-clause-usable
-returns-in_err-read_row-clause-usable g c = rw (err_from_is_err_and c.from_residual-in_err-read_row.result c.from_residual-in_err-read_row.ensures.1).1 tt
+returns-in_err-read_row-clause-usable g c = IfOk-from_err c.from_residual-in_err-read_row.result _ c.from_residual-in_err-read_row.ensures.0
 
 pub returns-in_err-read_row-clause-keeps : goal.returns-in_err-read_row-clause-keeps
 returns-in_err-read_row-clause-keeps g c = c.find_row.ensures.reads.keeps
 
 pub returns-in_err-delete-clause-usable : goal.returns-in_err-delete-clause-usable
-returns-in_err-delete-clause-usable g c = rw (err_from_is_err_and c.from_residual-in_err-delete.result c.from_residual-in_err-delete.ensures.1).1 tt
+returns-in_err-delete-clause-usable g c = IfOk-from_err c.from_residual-in_err-delete.result _ c.from_residual-in_err-delete.ensures.0
 
 pub returns-clause-usable : goal.returns-clause-usable
 returns-clause-usable g c = c.remove_entries.ensures.usable c.in_ok-delete.ensures.usable

@@ -1,5 +1,5 @@
 use Rattle.std.proofs.Common.{◌≡◌, ℤ, ◌∷◌, ◌<◌, drop, length, sym, ap, subst, ◌∙◌, to_z-of_z, to_z, of_z, w64}
-use Rattle.std.proofs.lemmas.Result.{err_from_is_err_and}
+use Rattle.std.proofs.lemmas.Result.{IfOk-from_err, err_from_is_err_and}
 use Rattle.sqlite_pool.specs.Pool.{state}
 use Rattle.sqlite_pool.specs.StoredLaws.{Keeps-refl}
 use Rattle.sqlite_record.specs.Record.{decode}
@@ -51,13 +51,13 @@ pub returns-in_err-row-clause-done : goal.returns-in_err-row-clause-done
 returns-in_err-row-clause-done g c = λ faithful schema wanted roots was now table shows keeps. let p = err_from_is_err_and c.from_residual.result c.from_residual.ensures.1 in rw (p.1, p.2) tt
 
 pub returns-in_err-row-clause-usable : goal.returns-in_err-row-clause-usable
-returns-in_err-row-clause-usable g c = rw (err_from_is_err_and c.from_residual.result c.from_residual.ensures.1).1 tt
+returns-in_err-row-clause-usable g c = IfOk-from_err c.from_residual.result _ c.from_residual.ensures.0
 
 pub returns-in_err-write_record-clause-usable : goal.returns-in_err-write_record-clause-usable
-returns-in_err-write_record-clause-usable g c = rw (err_from_is_err_and c.from_residual-in_err-write_record.result c.from_residual-in_err-write_record.ensures.1).1 tt
+returns-in_err-write_record-clause-usable g c = IfOk-from_err c.from_residual-in_err-write_record.result _ c.from_residual-in_err-write_record.ensures.0
 
 pub returns-in_err-put-clause-usable : goal.returns-in_err-put-clause-usable
-returns-in_err-put-clause-usable g c = rw (err_from_is_err_and c.from_residual-in_err-put.result c.from_residual-in_err-put.ensures.1).1 tt
+returns-in_err-put-clause-usable g c = IfOk-from_err c.from_residual-in_err-put.result _ c.from_residual-in_err-put.ensures.0
 
 pub returns-in_err-put-clause-keeps : goal.returns-in_err-put-clause-keeps
 returns-in_err-put-clause-keeps g c = c.put.ensures.keeps

@@ -1,6 +1,6 @@
 use Rattle.std.proofs.Common.{◌≡◌, ℕ, List, to_z-of_z, to_z, of_z, w64, inl, ◌∷◌, [], ◌++◌, length, get_or, map, filter, IsPermutation, refl, sym, ap, subst, subst₂, ◌∙◌, arith}
 use Rattle.std.proofs.lemmas.Bool.{eqb-false, eqb-true}
-use Rattle.std.proofs.lemmas.Result.{err_from_is_err_and}
+use Rattle.std.proofs.lemmas.Result.{IfOk-from_err, err_from_is_err_and}
 use Rattle.std.specs.Prelude.{⊤}
 use Rattle.sqlite_pool.specs.StoredLaws.{Keeps-trans, Keeps-refl}
 use Rattle.std.specs.List.{AllByRecursion}
@@ -103,7 +103,7 @@ returns-clause-done g c faithful = λ schema wanted roots was now table shows le
     (c.remove_all_under.ensures.done faithful wanted roots was trees indexes taken shows.placed.indexes)
 
 pub returns-in_err-if_usable-clause-usable : goal.returns-in_err-if_usable-clause-usable
-returns-in_err-if_usable-clause-usable g c = rw (err_from_is_err_and c.from_residual.result c.from_residual.ensures.1).1 tt
+returns-in_err-if_usable-clause-usable g c = IfOk-from_err c.from_residual.result _ c.from_residual.ensures.0
 
 pub returns-in_err-if_usable-clause-keeps : goal.returns-in_err-if_usable-clause-keeps
 returns-in_err-if_usable-clause-keeps g c = Keeps-refl _
@@ -118,19 +118,19 @@ pub returns-in_err-push-clause-done : goal.returns-in_err-push-clause-done
 returns-in_err-push-clause-done g c = λ faithful schema wanted roots was now table shows led. let p = err_from_is_err_and c.from_residual-in_err-push.result c.from_residual-in_err-push.ensures.1 in rw (p.1, p.2) tt
 
 pub returns-in_err-push-clause-usable : goal.returns-in_err-push-clause-usable
-returns-in_err-push-clause-usable g c = rw (err_from_is_err_and c.from_residual-in_err-push.result c.from_residual-in_err-push.ensures.1).1 tt
+returns-in_err-push-clause-usable g c = IfOk-from_err c.from_residual-in_err-push.result _ c.from_residual-in_err-push.ensures.0
 
 pub returns-in_err-push-clause-keeps : goal.returns-in_err-push-clause-keeps
 returns-in_err-push-clause-keeps g c = Keeps-refl _
 
 pub returns-in_err-rowids-clause-usable : goal.returns-in_err-rowids-clause-usable
-returns-in_err-rowids-clause-usable g c = rw (err_from_is_err_and c.from_residual-in_err-rowids.result c.from_residual-in_err-rowids.ensures.1).1 tt
+returns-in_err-rowids-clause-usable g c = IfOk-from_err c.from_residual-in_err-rowids.result _ c.from_residual-in_err-rowids.ensures.0
 
 pub returns-in_err-rowids-clause-keeps : goal.returns-in_err-rowids-clause-keeps
 returns-in_err-rowids-clause-keeps g c = c.rowids_under.ensures.reads.keeps
 
 pub returns-in_err-delete_all-clause-usable : goal.returns-in_err-delete_all-clause-usable
-returns-in_err-delete_all-clause-usable g c = rw (err_from_is_err_and c.from_residual-in_err-delete_all.result c.from_residual-in_err-delete_all.ensures.1).1 tt
+returns-in_err-delete_all-clause-usable g c = IfOk-from_err c.from_residual-in_err-delete_all.result _ c.from_residual-in_err-delete_all.ensures.0
 
 pub returns-clause-usable : goal.returns-clause-usable
 returns-clause-usable g c = c.remove_all_under.ensures.usable c.in_ok-delete_all.ensures.usable

@@ -5,7 +5,7 @@ use Rattle.page_files.specs.Trees.{trees_of}
 use Rattle.page_rows.specs.Indexes.{begins_with}
 use Rattle.row_writes.specs.Under.{entry_id}
 use Rattle.row_writes.proofs.RowsUnder.{whole_back}
-use Rattle.std.proofs.lemmas.Result.{err_from_is_err_and}
+use Rattle.std.proofs.lemmas.Result.{IfOk-from_err, err_from_is_err_and}
 use Rattle.row_writes.proofs.under.rowids_under.Goals as goal
 
 pub returns-clause-done : goal.returns-clause-done
@@ -25,7 +25,7 @@ pub returns-in_err-rowids-clause-reads : goal.returns-in_err-rowids-clause-reads
 returns-in_err-rowids-clause-reads g c = c.walk_under.ensures.reads
 
 pub returns-in_err-rowids-clause-usable : goal.returns-in_err-rowids-clause-usable
-returns-in_err-rowids-clause-usable g c = rw (err_from_is_err_and c.from_residual.result c.from_residual.ensures.1).1 tt
+returns-in_err-rowids-clause-usable g c = IfOk-from_err c.from_residual.result _ c.from_residual.ensures.0
 
 pub returns-clause-reads : goal.returns-clause-reads
 returns-clause-reads g c = c.walk_under.ensures.reads

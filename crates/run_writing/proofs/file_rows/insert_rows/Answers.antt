@@ -4,8 +4,9 @@ use Rattle.std.specs.Iterator.{Drains}
 use Rattle.std.specs.Result.{is_ok}
 use Rattle.std.proofs.lemmas.Grind.{fold-append}
 use Rattle.store_schema.specs.Within.{Writes}
-use Rattle.store_schema.proofs.Within.{writes_same}
+use Rattle.store_schema.proofs.Within.{then_err, writes_same}
 use Rattle.run_writing.proofs.Queueing.{queues_begin, queues_then, queues_end}
+use Rattle.run_writing.proofs.Refusals.{not_done}
 use Rattle.run_writing.proofs.file_rows.insert_rows.Goals as goal
 
 pub rows-init : goal.rows-init
@@ -39,3 +40,8 @@ returns g c =
       λ _. subst (λ it. Drains g.I.Iterator.next_gives it c.rows.yielded) c.into_iter-row-iterator.ensures.into_iter_gives (_, (_, c.rows.yielded_by, c.in-None.ensures.steps)),
       writes_same g.S.Store ok (λ _. ⊤) (with_lines was.lines) (λ t. fold (λ t row. changed row t) t c.rows.yielded) _ _ all (λ _ t _ _. was.change t),
     )
+
+pub returns-in_err-queue_lines : goal.returns-in_err-queue_lines
+returns-in_err-queue_lines g c =
+    let refused = c.from_residual.ensures.0 in
+    ([], not_done c.from_residual.result refused, then_err g.S.Store c.from_residual.result refused c.rows.invariant.made.writes c.in_err-queue_lines.ensures.2.writes)

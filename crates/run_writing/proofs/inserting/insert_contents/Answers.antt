@@ -8,8 +8,9 @@ use Rattle.plain_tables.specs.Files.{all_named, numbers_in}
 use Rattle.plain_tables.specs.Tables.{RunRow}
 use Rattle.run_stores.specs.Files.{cell_rows, call_rows, stack_rows, with_rows}
 use Rattle.store_schema.specs.Steps.{IsAbove}
-use Rattle.store_schema.proofs.Within.{both, writes_same, writes_then, writes_asking, was_faithful}
+use Rattle.store_schema.proofs.Within.{both, then_err, writes_same, writes_then, writes_asking, was_faithful}
 use Rattle.run_lines.specs.Runs.{with_head_of}
+use Rattle.run_writing.proofs.Refusals.{behind, first_err, not_done}
 use Rattle.run_writing.proofs.inserting.insert_contents.Goals as goal
 
 pub returns-clause-writes : goal.returns-clause-writes
@@ -36,3 +37,27 @@ returns-clause-writes g c =
 pub returns-clause-found_open : goal.returns-clause-found_open
 returns-clause-found_open g c is clean =
     c.in_ok-insert_head.ensures.found_open refl (was_faithful g.S.Store c.in_ok-numbers.ensures.writes (was_faithful g.S.Store c.in_ok-insert_cells.ensures (was_faithful g.S.Store c.in_ok-insert_calls.ensures (was_faithful g.S.Store c.insert_stacks.ensures clean))))
+
+pub returns-in_err-insert_head-clause-writes : goal.returns-in_err-insert_head-clause-writes
+returns-in_err-insert_head-clause-writes g c = first_err g.S.Store c.from_residual.result c.from_residual.ensures.0 c.in_err-insert_head.ensures.writes
+
+pub returns-in_err-numbers-clause-writes : goal.returns-in_err-numbers-clause-writes
+returns-in_err-numbers-clause-writes g c = then_err g.S.Store c.from_residual-in_err-numbers.result c.from_residual-in_err-numbers.ensures.0 c.in_ok-insert_head.ensures.writes c.in_err-numbers.ensures.writes
+
+pub returns-in_err-insert_cells-clause-writes : goal.returns-in_err-insert_cells-clause-writes
+returns-in_err-insert_cells-clause-writes g c = then_err g.S.Store c.from_residual-in_err-insert_cells.result c.from_residual-in_err-insert_cells.ensures.0 (behind g.S.Store c.in_ok-insert_head.ensures.writes c.in_ok-numbers.ensures.writes) c.in_err-insert_cells.ensures
+
+pub returns-in_err-insert_calls-clause-writes : goal.returns-in_err-insert_calls-clause-writes
+returns-in_err-insert_calls-clause-writes g c = then_err g.S.Store c.from_residual-in_err-insert_calls.result c.from_residual-in_err-insert_calls.ensures.0 (behind g.S.Store (behind g.S.Store c.in_ok-insert_head.ensures.writes c.in_ok-numbers.ensures.writes) c.in_ok-insert_cells.ensures) c.in_err-insert_calls.ensures
+
+pub returns-in_err-insert_head-clause-found_open : goal.returns-in_err-insert_head-clause-found_open
+returns-in_err-insert_head-clause-found_open g c is = not_done c.from_residual.result c.from_residual.ensures.0 is
+
+pub returns-in_err-numbers-clause-found_open : goal.returns-in_err-numbers-clause-found_open
+returns-in_err-numbers-clause-found_open g c is = not_done c.from_residual-in_err-numbers.result c.from_residual-in_err-numbers.ensures.0 is
+
+pub returns-in_err-insert_cells-clause-found_open : goal.returns-in_err-insert_cells-clause-found_open
+returns-in_err-insert_cells-clause-found_open g c is = not_done c.from_residual-in_err-insert_cells.result c.from_residual-in_err-insert_cells.ensures.0 is
+
+pub returns-in_err-insert_calls-clause-found_open : goal.returns-in_err-insert_calls-clause-found_open
+returns-in_err-insert_calls-clause-found_open g c is = not_done c.from_residual-in_err-insert_calls.result c.from_residual-in_err-insert_calls.ensures.0 is

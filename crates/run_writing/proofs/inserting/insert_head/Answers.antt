@@ -6,8 +6,9 @@ use Rattle.plain_tables.specs.Tables.{RunRow}
 use Rattle.plain_tables.specs.Changes.{with_next, with_run, with_events, with_derived, with_coefs}
 use Rattle.store_schema.specs.Lines.{run_row, event_row, derived_row, coef_row}
 use Rattle.store_schema.specs.Steps.{IsAbove, IsNext}
-use Rattle.store_schema.proofs.Within.{was_faithful, writes_then, writes_same, writes_asking}
+use Rattle.store_schema.proofs.Within.{was_faithful, then_err, writes_then, writes_same, writes_asking}
 use Rattle.run_lines.specs.Runs.{with_head_of}
+use Rattle.run_writing.proofs.Refusals.{behind, first_err, not_done}
 use Rattle.run_writing.proofs.inserting.insert_head.Goals as goal
 
 pub returns-clause-writes : goal.returns-clause-writes
@@ -36,3 +37,27 @@ returns-clause-writes g c =
 -- the first statement found it
 pub returns-clause-found_open : goal.returns-clause-found_open
 returns-clause-found_open g c is clean = c.in_ok-raise_next.ensures.found_open refl (was_faithful g.S.Store c.in_ok-insert_line_of_run.ensures (was_faithful g.S.Store c.in_ok-insert_lines.ensures (was_faithful g.S.Store c.in_ok-insert_lines-2.ensures (was_faithful g.S.Store c.insert_lines-3.ensures clean))))
+
+pub returns-in_err-raise_next-clause-writes : goal.returns-in_err-raise_next-clause-writes
+returns-in_err-raise_next-clause-writes g c = first_err g.S.Store c.from_residual.result c.from_residual.ensures.0 c.in_err-raise_next.ensures.writes
+
+pub returns-in_err-insert_line_of_run-clause-writes : goal.returns-in_err-insert_line_of_run-clause-writes
+returns-in_err-insert_line_of_run-clause-writes g c = then_err g.S.Store c.from_residual-in_err-insert_line_of_run.result c.from_residual-in_err-insert_line_of_run.ensures.0 c.in_ok-raise_next.ensures.writes c.in_err-insert_line_of_run.ensures
+
+pub returns-in_err-insert_lines-clause-writes : goal.returns-in_err-insert_lines-clause-writes
+returns-in_err-insert_lines-clause-writes g c = then_err g.S.Store c.from_residual-in_err-insert_lines.result c.from_residual-in_err-insert_lines.ensures.0 (behind g.S.Store c.in_ok-raise_next.ensures.writes c.in_ok-insert_line_of_run.ensures) c.in_err-insert_lines.ensures
+
+pub returns-in_err-insert_lines-2-clause-writes : goal.returns-in_err-insert_lines-2-clause-writes
+returns-in_err-insert_lines-2-clause-writes g c = then_err g.S.Store c.from_residual-in_err-insert_lines-2.result c.from_residual-in_err-insert_lines-2.ensures.0 (behind g.S.Store (behind g.S.Store c.in_ok-raise_next.ensures.writes c.in_ok-insert_line_of_run.ensures) c.in_ok-insert_lines.ensures) c.in_err-insert_lines-2.ensures
+
+pub returns-in_err-raise_next-clause-found_open : goal.returns-in_err-raise_next-clause-found_open
+returns-in_err-raise_next-clause-found_open g c is = not_done c.from_residual.result c.from_residual.ensures.0 is
+
+pub returns-in_err-insert_line_of_run-clause-found_open : goal.returns-in_err-insert_line_of_run-clause-found_open
+returns-in_err-insert_line_of_run-clause-found_open g c is = not_done c.from_residual-in_err-insert_line_of_run.result c.from_residual-in_err-insert_line_of_run.ensures.0 is
+
+pub returns-in_err-insert_lines-clause-found_open : goal.returns-in_err-insert_lines-clause-found_open
+returns-in_err-insert_lines-clause-found_open g c is = not_done c.from_residual-in_err-insert_lines.result c.from_residual-in_err-insert_lines.ensures.0 is
+
+pub returns-in_err-insert_lines-2-clause-found_open : goal.returns-in_err-insert_lines-2-clause-found_open
+returns-in_err-insert_lines-2-clause-found_open g c is = not_done c.from_residual-in_err-insert_lines-2.result c.from_residual-in_err-insert_lines-2.ensures.0 is

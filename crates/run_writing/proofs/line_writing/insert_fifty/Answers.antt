@@ -1,12 +1,14 @@
-use Rattle.std.proofs.Common.{◌≡◌, ◌<◌, ◌+◌, [], ◌∷◌, ◌++◌, map, take, length, sym, ap, subst₂, ◌∙◌, rules, arith, take_all}
+use Rattle.std.proofs.Common.{◌≡◌, ◌<◌, ◌+◌, false, [], ◌∷◌, ◌++◌, map, take, length, sym, ap, subst₂, ◌∙◌, rules, arith, take_all}
+use Rattle.std.specs.Bool.{⊤}
 use Rattle.std.specs.Result.{is_ok}
 use Rattle.std.proofs.lemmas.List.{take_more}
 use Rattle.sqlite.specs.Values.{bound}
 use Rattle.sql_tables.proofs.Many.{all_values}
 use Rattle.store_schema.specs.Within.{Ran}
-use Rattle.store_schema.proofs.Within.{text_writes}
+use Rattle.store_schema.proofs.Within.{text_writes, writes_none}
 use Rattle.run_writing.specs.LineInserts.{mapped_length}
 use Rattle.run_writing.proofs.Queueing.{line_more}
+use Rattle.run_writing.proofs.Refusals.{first_err}
 use Rattle.run_writing.proofs.line_writing.insert_fifty.Goals as goal
 
 pub lines-preserved : goal.lines-preserved
@@ -27,3 +29,6 @@ returns g c =
     let given = ap bound c.deref.ensures.value ∙ c.lines.invariant ∙ ap (λ l. all_values (map g.L.Line.columns (map g.L.Line.plain l))) column_int in
     text_writes _ _ _ _ (g.met.L.RowOfMany.inserts_fifty lines (mapped_length g.L.Line.plain c.args.lines.now ∙ c.requires)) g.S.Store _ _ _
     (subst₂ (λ text params. Ran g.S.Store text params (is_ok c.write_inside.result) c.args.tx.now c.write_inside.new.tx) c.insert_fifty_sql.ensures given c.write_inside.ensures)
+
+pub returns-in_err-add_values : goal.returns-in_err-add_values
+returns-in_err-add_values g c = first_err g.S.Store c.from_residual.result c.from_residual.ensures.0 (writes_none g.S.Store false (λ _. ⊤) c.args.tx.now)

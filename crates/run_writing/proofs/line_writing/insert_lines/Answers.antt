@@ -1,5 +1,5 @@
-use Rattle.std.proofs.Common.{◌≡◌, ◌<◌, ◌+◌, true, [], ◌∷◌, ◌++◌, map, take, length, sym, ap, subst, ◌∙◌, rules}
-use Rattle.std.proofs.lemmas.List.{take_more}
+use Rattle.std.proofs.Common.{◌≡◌, ◌<◌, ◌+◌, true, [], ◌∷◌, ◌++◌, map, take, length, sym, ap, subst, ◌∙◌, rules, arith}
+use Rattle.std.proofs.lemmas.List.{take_all, take_more}
 use Rattle.sql_tables.proofs.Rows.{map-append}
 use Rattle.store_schema.specs.Within.{Writes}
 use Rattle.store_schema.proofs.Within.{then_err}
@@ -23,3 +23,8 @@ lines-preserved g c =
 
 pub returns-in_err-insert_line : goal.returns-in_err-insert_line
 returns-in_err-insert_line g c = then_err g.S.Store c.from_residual.result c.from_residual.ensures.0 c.lines.invariant c.in_err-insert_line.ensures
+
+pub returns : goal.returns
+returns g c =
+    let all = take_all c.lines.line-index c.args.lines.now (omega (arith, c.lines-test.false)) in
+    subst (λ l. Writes g.S.Store true (g.L.Line.with_lines (map g.L.Line.plain l)) c.args.tx.now c.lines.tx) all c.lines.invariant

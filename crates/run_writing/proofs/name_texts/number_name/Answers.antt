@@ -8,6 +8,7 @@ use Rattle.plain_tables.specs.Files.{number_in}
 use Rattle.plain_tables.proofs.Numbering.{named_held, named_new}
 use Rattle.store_schema.proofs.Within.{both, writes_same, was_faithful}
 use Rattle.store_schema.proofs.Names.{is_held, not_held}
+use Rattle.run_writing.proofs.Refusals.{first_err}
 use Rattle.run_writing.proofs.name_texts.number_name.Goals as goal
 
 pub returns-in-Some-clause-writes : goal.returns-in-Some-clause-writes
@@ -34,3 +35,6 @@ returns-in-None-clause-told g c clean t was =
     let early = was_faithful g.S.Store c.add_name.ensures.writes clean in
     let new = named_new t name (not_held t name (sym c.in-None.is ∙ c.in_ok-number.ensures.told early t was)) in
     if_ok_then c.add_name.result (c.add_name.ensures.told clean t (c.in_ok-number.ensures.asks.done refl early t tt was)) (λ n is. is ∙ ap (λ (u : Tables). number_in u.names name) (sym new))
+
+pub returns-in_err-number-clause-writes : goal.returns-in_err-number-clause-writes
+returns-in_err-number-clause-writes g c = first_err g.S.Store c.from_residual.result c.from_residual.ensures.0 c.in_err-number.ensures.asks

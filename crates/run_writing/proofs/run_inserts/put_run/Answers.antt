@@ -2,7 +2,7 @@ use Rattle.std.proofs.Common.{◌≡◌, Ok, Err, Result, OnOk, refl, subst, sym
 use Rattle.std.specs.Result.{is_ok}
 use Rattle.cost_rows.specs.Rows.{content_of}
 use Rattle.sqlite_trees.specs.Tree.{Trees}
-use Rattle.sql_tables.proofs.Calls.{changed_as, rests_as}
+use Rattle.sql_tables.proofs.Calls.{changed_as, changed_none, rests_as}
 use Rattle.store_schema.specs.Schema.{schema_two}
 use Rattle.plain_tables.specs.Tables.{Tables}
 use Rattle.store_schema.specs.Tables.{Holds}
@@ -39,3 +39,12 @@ returns-clause-taken g c clean t was next r there is =
     on_ok_if ⊥ c.put_in.result (λ ok.
     let made = (returns-clause-changes g c clean).done ok t (rests_as schema_two (Holds t) (λ db. (t.next ≡ c.args.number) × Holds t db) _ was (next, was.holds)) in
     taken t _ _ c.args.kind c.args.digest.now c.args.label.now file.head.now rows r was.holds (subst (λ n. Holds (with_file n c.args.kind c.args.digest.now c.args.label.now file.head.now rows t) (state g.S.Store c.put_in.new.conn).now.trees) (sym next) made.holds) (kit_has t.runs r there) is)
+
+pub returns-clause-column_int : goal.returns-clause-column_int
+returns-clause-column_int g c = on_ok _ c.put_in.result c.in_ok-lines.ensures.column_int
+
+pub returns-in_default-clause-changes : goal.returns-in_default-clause-changes
+returns-in_default-clause-changes g c clean = changed_none schema_two _ _ _ clean
+
+pub returns-then-not-is_autocommit-clause-changes : goal.returns-then-not-is_autocommit-clause-changes
+returns-then-not-is_autocommit-clause-changes g c clean = changed_none schema_two _ _ _ clean

@@ -10,6 +10,7 @@ use Rattle.histories.proofs.ExpectedLeft.{was_still}
 use Rattle.histories.proofs.Settled.{steps_err}
 use Rattle.store_commands.specs.Changes.{changed, command_from_change, refusal_for}
 use Rattle.store_commands.proofs.Expectations.{change_form, change_expected, changed_in, done_in, expected_if_free, refused_in, stays_in, tell_changed}
+use Rattle.std.proofs.lemmas.Result.{IfOk-from_err}
 use Rattle.store_commands.proofs.changes.change_group.Goals as goal
 
 pub returns-in_err-refusal-clause-steps : goal.returns-in_err-refusal-clause-steps
@@ -100,3 +101,21 @@ returns-clause-told g c clean t was =
     let name = c.args.name.now in
     let early = (c.in_ok-change_free.ensures.changes c.args.limits clean).stays.was_faithful in
     changed_in (λ _. ⊤) t (refusal_for c.args.limits how name t) (changed how name) (sym (c.in_ok-refusal.ensures.told early t was) ∙ c.in_default.is) tt
+
+pub returns-in_err-refusal-clause-answered : goal.returns-in_err-refusal-clause-answered
+returns-in_err-refusal-clause-answered g c = λ clean h s. IfOk-from_err c.from_residual.result _ c.from_residual.ensures.0
+
+pub returns-in_err-refusal-clause-told : goal.returns-in_err-refusal-clause-told
+returns-in_err-refusal-clause-told g c = λ clean t was. IfOk-from_err c.from_residual.result _ c.from_residual.ensures.0
+
+pub returns-in_err-refusal-clause-made : goal.returns-in_err-refusal-clause-made
+returns-in_err-refusal-clause-made g c = λ clean t was. IfOk-from_err c.from_residual.result _ c.from_residual.ensures.0
+
+pub returns-in_err-change_free-clause-answered : goal.returns-in_err-change_free-clause-answered
+returns-in_err-change_free-clause-answered g c = λ clean h s. IfOk-from_err c.from_residual-in_err-change_free.result _ c.from_residual-in_err-change_free.ensures.0
+
+pub returns-in_err-change_free-clause-told : goal.returns-in_err-change_free-clause-told
+returns-in_err-change_free-clause-told g c = λ clean t was. IfOk-from_err c.from_residual-in_err-change_free.result _ c.from_residual-in_err-change_free.ensures.0
+
+pub returns-in_err-change_free-clause-made : goal.returns-in_err-change_free-clause-made
+returns-in_err-change_free-clause-made g c = λ clean t was. IfOk-from_err c.from_residual-in_err-change_free.result _ c.from_residual-in_err-change_free.ensures.0

@@ -16,6 +16,7 @@ use Rattle.histories.proofs.After.{steps_after_it, done_after}
 use Rattle.histories.proofs.ExpectedLeft.{was_still}
 use Rattle.histories.proofs.Settled.{steps_err}
 use Rattle.store_commands.proofs.Expectations.{changed_in, done_in, refused_in, remove_expected, expected_if_run, stays_in}
+use Rattle.std.proofs.lemmas.Result.{IfOk-from_err}
 use Rattle.store_commands.proofs.changes.remove.Goals as goal
 
 pub returns-in_err-has_run-clause-steps : goal.returns-in_err-has_run-clause-steps
@@ -89,3 +90,21 @@ pub returns-clause-told : goal.returns-clause-told
 returns-clause-told g c clean t was =
     changed_in (λ _. ⊤) t (missing_of true (tables.has_run t c.args.number)) (without_run c.args.number)
     (ap (missing_of true) (sym (c.in_ok-has_run.ensures.told (c.in_ok-drop_run.ensures.changes clean).stays.was_faithful t was) ∙ c.if-not-branch.false)) tt
+
+pub returns-in_err-has_run-clause-answered : goal.returns-in_err-has_run-clause-answered
+returns-in_err-has_run-clause-answered g c = λ clean limits h s. IfOk-from_err c.from_residual.result _ c.from_residual.ensures.0
+
+pub returns-in_err-has_run-clause-told : goal.returns-in_err-has_run-clause-told
+returns-in_err-has_run-clause-told g c = λ clean t was. IfOk-from_err c.from_residual.result _ c.from_residual.ensures.0
+
+pub returns-in_err-has_run-clause-made : goal.returns-in_err-has_run-clause-made
+returns-in_err-has_run-clause-made g c = λ clean t was. IfOk-from_err c.from_residual.result _ c.from_residual.ensures.0
+
+pub returns-in_err-drop_run-clause-answered : goal.returns-in_err-drop_run-clause-answered
+returns-in_err-drop_run-clause-answered g c = λ clean limits h s. IfOk-from_err c.from_residual-in_err-drop_run.result _ c.from_residual-in_err-drop_run.ensures.0
+
+pub returns-in_err-drop_run-clause-told : goal.returns-in_err-drop_run-clause-told
+returns-in_err-drop_run-clause-told g c = λ clean t was. IfOk-from_err c.from_residual-in_err-drop_run.result _ c.from_residual-in_err-drop_run.ensures.0
+
+pub returns-in_err-drop_run-clause-made : goal.returns-in_err-drop_run-clause-made
+returns-in_err-drop_run-clause-made g c = λ clean t was. IfOk-from_err c.from_residual-in_err-drop_run.result _ c.from_residual-in_err-drop_run.ensures.0

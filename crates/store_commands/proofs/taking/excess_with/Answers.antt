@@ -1,6 +1,8 @@
-use Rattle.std.proofs.Common.{Some, sym, ap, subst, ◌∙◌, length, option_map}
+use Rattle.std.proofs.Common.{true, Some, sym, ap, subst, ◌∙◌, length, option_map}
 use Rattle.run_stores.specs.Totals.{IsHeldIn}
 use Rattle.histories.specs.Sums.{excess_at}
+use Rattle.std.proofs.lemmas.Result.{IfOk-from_err}
+use Rattle.run_stores.proofs.Calls.{asked_err, asked_refused}
 use Rattle.store_commands.proofs.taking.excess_with.Goals as goal
 
 pub admit-requires-clause-self_cost : goal.admit-requires-clause-self_cost
@@ -26,3 +28,23 @@ returns-clause-told g c clean t represents = record {
   are_added = c.args.file.now.summed;
   excess_is = ap (λ e. Some e) (c.in_ok-excess-in-Err.ensures ∙ ap (λ l. excess_at l c.in-Err.overflow) c.as_slice-in-Err.ensures) ∙ sym (ap (option_map (excess_at c.args.file.now.head.now.events)) c.in-Err.ensures);
 }
+
+pub returns-in_err-totals-clause-told : goal.returns-in_err-totals-clause-told
+returns-in_err-totals-clause-told g c = λ clean t was. IfOk-from_err c.from_residual.result _ c.from_residual.ensures.0
+
+pub returns-in_err-excess-in-Err-clause-told : goal.returns-in_err-excess-in-Err-clause-told
+returns-in_err-excess-in-Err-clause-told g c = λ clean t was. IfOk-from_err c.from_residual-in_err-excess-in-Err.result _ c.from_residual-in_err-excess-in-Err.ensures.0
+
+pub returns-in_err-totals-clause-asks : goal.returns-in_err-totals-clause-asks
+returns-in_err-totals-clause-asks g c = λ clean.
+    let last = c.in_err-totals.ensures.asks clean in
+    asked_err g.S.StoreState c.from_residual.result _ _ c.from_residual.ensures.0 last
+
+pub returns-in_err-excess-in-Err-clause-asks : goal.returns-in_err-excess-in-Err-clause-asks
+returns-in_err-excess-in-Err-clause-asks g c = λ clean. asked_err g.S.StoreState c.from_residual-in_err-excess-in-Err.result _ _ c.from_residual-in_err-excess-in-Err.ensures.0 (asked_refused g.S.StoreState true _ _ (c.in_ok-totals.ensures.asks clean))
+
+pub returns-in-Ok-clause-asks : goal.returns-in-Ok-clause-asks
+returns-in-Ok-clause-asks g c = c.in_ok-totals.ensures.asks
+
+pub returns-clause-asks : goal.returns-clause-asks
+returns-clause-asks g c = c.in_ok-totals.ensures.asks

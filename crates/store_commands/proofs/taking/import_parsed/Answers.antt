@@ -24,6 +24,7 @@ use Rattle.store_commands.specs.Imports.{IsNewFile}
 use Rattle.file_reading.specs.FileParsers.{IsFileOf}
 use Rattle.store_commands.proofs.Imports.{held_expected, fault_expected}
 use Rattle.store_commands.proofs.Inserts.{ended_at_once, new_steps}
+use Rattle.std.proofs.lemmas.Result.{IfOk-from_err}
 use Rattle.store_commands.proofs.taking.import_parsed.Goals as goal
 
 pub returns-in_err-number-clause-steps : goal.returns-in_err-number-clause-steps
@@ -168,3 +169,21 @@ returns-in-Err-clause-shut g c clean = shut_asked g.S.StoreState true _ _ (c.in_
 
 pub returns-in_err-file-in-Ok-clause-shut : goal.returns-in_err-file-in-Ok-clause-shut
 returns-in_err-file-in-Ok-clause-shut g c clean = shut_asked g.S.StoreState true _ _ (c.in_ok-number.ensures.asks clean)
+
+pub returns-in_err-number-clause-answered : goal.returns-in_err-number-clause-answered
+returns-in_err-number-clause-answered g c = λ clean h outcomes s ended is. IfOk-from_err c.from_residual.result _ c.from_residual.ensures.0
+
+pub returns-in_err-number-clause-told : goal.returns-in_err-number-clause-told
+returns-in_err-number-clause-told g c = λ clean t was. IfOk-from_err c.from_residual.result _ c.from_residual.ensures.0
+
+pub returns-in_err-number-clause-made : goal.returns-in_err-number-clause-made
+returns-in_err-number-clause-made g c = λ clean t was. IfOk-from_err c.from_residual.result _ c.from_residual.ensures.0
+
+pub returns-in_err-file-in-Ok-clause-answered : goal.returns-in_err-file-in-Ok-clause-answered
+returns-in_err-file-in-Ok-clause-answered g c = λ clean h outcomes s ended is. IfOk-from_err c.from_residual-in_err-file-in-Ok.result _ c.from_residual-in_err-file-in-Ok.ensures.0
+
+pub returns-in_err-file-in-Ok-clause-told : goal.returns-in_err-file-in-Ok-clause-told
+returns-in_err-file-in-Ok-clause-told g c = λ clean t was. IfOk-from_err c.from_residual-in_err-file-in-Ok.result _ c.from_residual-in_err-file-in-Ok.ensures.0
+
+pub returns-in_err-file-in-Ok-clause-made : goal.returns-in_err-file-in-Ok-clause-made
+returns-in_err-file-in-Ok-clause-made g c = λ clean t was. IfOk-from_err c.from_residual-in_err-file-in-Ok.result _ c.from_residual-in_err-file-in-Ok.ensures.0

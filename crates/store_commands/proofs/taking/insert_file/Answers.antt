@@ -17,6 +17,7 @@ use Rattle.store_commands.specs.Refused.{room_refusal}
 use Rattle.store_commands.proofs.Imports.{room_expected}
 use Rattle.store_commands.proofs.Inserts.{next_of, number_expected, refused_for, run_steps, run_done}
 use Rattle.histories.proofs.Settled.{steps_err_from as steps_err}
+use Rattle.std.proofs.lemmas.Result.{IfOk-from_err}
 use Rattle.store_commands.proofs.taking.insert_file.Goals as goal
 
 pub returns-in_err-number-clause-steps : goal.returns-in_err-number-clause-steps
@@ -90,5 +91,23 @@ returns-in_ok-put_run-in-Ok-clause-made g c clean t represents =
     record {
       number = Ok c.in-Ok.number;
       is_number = is;
-      inserts = (refl, become_at g.S.StoreState (with_file c.in-Ok.number c.args.kind c.args.digest.now c.args.label.now file.head.now (content_of file.rows.now)) t c.put_run.new.self (two.done refl t (given_at g.S.StoreState (λ u. u.next ≡ c.in-Ok.number) t _ same there)));
+      inserts = (refl, become_at g.S.StoreState (with_file c.in-Ok.number c.args.kind c.args.digest.now c.args.label.now file.head.now (content_of file.rows.now)) t c.put_run.new.self (two.done (refl {a = true}) t (given_at g.S.StoreState (λ u. u.next ≡ c.in-Ok.number) t _ same there)));
     }
+
+pub returns-in_err-number-clause-answered : goal.returns-in_err-number-clause-answered
+returns-in_err-number-clause-answered g c = λ clean h outcomes s ended new. IfOk-from_err c.from_residual.result _ c.from_residual.ensures.0
+
+pub returns-in_err-number-clause-told : goal.returns-in_err-number-clause-told
+returns-in_err-number-clause-told g c = λ clean t was. IfOk-from_err c.from_residual.result _ c.from_residual.ensures.0
+
+pub returns-in_err-number-clause-made : goal.returns-in_err-number-clause-made
+returns-in_err-number-clause-made g c = λ clean t was. IfOk-from_err c.from_residual.result _ c.from_residual.ensures.0
+
+pub returns-in_err-put_run-in-Ok-clause-answered : goal.returns-in_err-put_run-in-Ok-clause-answered
+returns-in_err-put_run-in-Ok-clause-answered g c = λ clean h outcomes s ended new. IfOk-from_err c.from_residual-in_err-put_run-in-Ok.result _ c.from_residual-in_err-put_run-in-Ok.ensures.0
+
+pub returns-in_err-put_run-in-Ok-clause-told : goal.returns-in_err-put_run-in-Ok-clause-told
+returns-in_err-put_run-in-Ok-clause-told g c = λ clean t was. IfOk-from_err c.from_residual-in_err-put_run-in-Ok.result _ c.from_residual-in_err-put_run-in-Ok.ensures.0
+
+pub returns-in_err-put_run-in-Ok-clause-made : goal.returns-in_err-put_run-in-Ok-clause-made
+returns-in_err-put_run-in-Ok-clause-made g c = λ clean t was. IfOk-from_err c.from_residual-in_err-put_run-in-Ok.result _ c.from_residual-in_err-put_run-in-Ok.ensures.0

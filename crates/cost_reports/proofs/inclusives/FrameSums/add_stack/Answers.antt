@@ -4,8 +4,8 @@ use Rattle.report_texts.specs.Inclusive.{InclusiveCosts, names_costs}
 use Rattle.cost_reports.proofs.FrameLemmas.{total_in}
 use Rattle.cost_reports.proofs.inclusives.FrameSums.add_stack.Goals as goal
 
-pub add_functions-requires : goal.add_functions-requires
-add_functions-requires c =
+pub add_functions-added-requires : goal.add_functions-added-requires
+add_functions-added-requires c =
     let count = c.args.row.now.count in
     let most = total_in count c.args.row.now.stack.now in
     let same = ap (λ names. total_of (names_costs count names)) c.in_ok-functions.ensures in

@@ -9,7 +9,7 @@ use Rattle.sqlite_value.specs.Order.{Row}
 use Rattle.page_edits.specs.Places.{rows_given}
 use Rattle.line_fills.specs.Rows.{row_at}
 use Rattle.line_fills.proofs.Numbers.{numbered-more}
-use Rattle.std.proofs.lemmas.Result.{err_from_is_err_and}
+use Rattle.std.proofs.lemmas.Result.{IfOk-from_err}
 use Rattle.line_fills.proofs.records.Records.rows.Goals as goal
 
 -- the record at a place, and the row of it
@@ -44,19 +44,19 @@ loop-at-preserved c =
     }
 
 pub returns-in_err-slices-clause-rows : goal.returns-in_err-slices-clause-rows
-returns-in_err-slices-clause-rows c = rw (err_from_is_err_and c.from_residual.result c.from_residual.ensures.1).1 tt
+returns-in_err-slices-clause-rows c = IfOk-from_err c.from_residual.result _ c.from_residual.ensures.0
 
 pub returns-in_err-slices-clause-records : goal.returns-in_err-slices-clause-records
-returns-in_err-slices-clause-records c = rw (err_from_is_err_and c.from_residual.result c.from_residual.ensures.1).1 tt
+returns-in_err-slices-clause-records c = IfOk-from_err c.from_residual.result _ c.from_residual.ensures.0
 
 pub returns-in_err-rows-clause-rows : goal.returns-in_err-rows-clause-rows
-returns-in_err-rows-clause-rows c = rw (err_from_is_err_and c.from_residual-in_err-rows.result c.from_residual-in_err-rows.ensures.1).1 tt
+returns-in_err-rows-clause-rows c = IfOk-from_err c.from_residual-in_err-rows.result _ c.from_residual-in_err-rows.ensures.0
 
 pub returns-in_err-rows-clause-records : goal.returns-in_err-rows-clause-records
-returns-in_err-rows-clause-records c = rw (err_from_is_err_and c.from_residual-in_err-rows.result c.from_residual-in_err-rows.ensures.1).1 tt
+returns-in_err-rows-clause-records c = IfOk-from_err c.from_residual-in_err-rows.result _ c.from_residual-in_err-rows.ensures.0
 
 pub returns-in_err-push-clause-rows : goal.returns-in_err-push-clause-rows
-returns-in_err-push-clause-rows c = rw (err_from_is_err_and c.from_residual-in_err-push.result c.from_residual-in_err-push.ensures.1).1 tt
+returns-in_err-push-clause-rows c = IfOk-from_err c.from_residual-in_err-push.result _ c.from_residual-in_err-push.ensures.0
 
 pub returns-in_err-push-clause-records : goal.returns-in_err-push-clause-records
-returns-in_err-push-clause-records c = rw (err_from_is_err_and c.from_residual-in_err-push.result c.from_residual-in_err-push.ensures.1).1 tt
+returns-in_err-push-clause-records c = IfOk-from_err c.from_residual-in_err-push.result _ c.from_residual-in_err-push.ensures.0

@@ -1,5 +1,5 @@
 use Rattle.std.proofs.Common.{◌∙◌, inr}
-use Rattle.std.proofs.lemmas.Result.{err_from_is_err_and}
+use Rattle.std.proofs.lemmas.Result.{IfOk-from_err, err_from_is_err_and}
 use Rattle.sqlite_pages.proofs.Doubt.{no_doubt}
 use Rattle.page_rows.proofs.FileTables.{schema_there, index_stated}
 use Rattle.sqlite_pool.proofs.PoolLemmas.{shut_unless_ready}
@@ -21,7 +21,7 @@ returns-in_err-root-clause-reads g c =
     record { keeps = order.keeps; marks = order.marks; pages = c.root_named.ensures.pages }
 
 pub returns-in_err-root-clause-usable : goal.returns-in_err-root-clause-usable
-returns-in_err-root-clause-usable g c = rw (err_from_is_err_and c.from_residual.result c.from_residual.ensures.1).1 tt
+returns-in_err-root-clause-usable g c = IfOk-from_err c.from_residual.result _ c.from_residual.ensures.0
 
 pub returns-in_err-if_usable-clause-reads : goal.returns-in_err-if_usable-clause-reads
 returns-in_err-if_usable-clause-reads g c =
@@ -29,7 +29,7 @@ returns-in_err-if_usable-clause-reads g c =
     record { keeps = order.keeps; marks = order.marks; pages = c.root_named.ensures.pages }
 
 pub returns-in_err-if_usable-clause-usable : goal.returns-in_err-if_usable-clause-usable
-returns-in_err-if_usable-clause-usable g c = rw (err_from_is_err_and c.from_residual-in_err-if_usable.result c.from_residual-in_err-if_usable.ensures.1).1 tt
+returns-in_err-if_usable-clause-usable g c = IfOk-from_err c.from_residual-in_err-if_usable.result _ c.from_residual-in_err-if_usable.ensures.0
 
 pub returns-clause-reads : goal.returns-clause-reads
 returns-clause-reads g c =

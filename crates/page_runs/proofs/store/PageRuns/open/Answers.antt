@@ -9,6 +9,8 @@ use Rattle.sqlite_pool.specs.Stored.{Recovers}
 use Rattle.page_places.proofs.Rooting.{store_resting}
 use Rattle.page_runs.specs.declared.store.PageRuns.{PageRuns}
 use Rattle.page_runs.proofs.Taken.{represents_as}
+use Rattle.std.proofs.lemmas.Result.{IfOk-from_err}
+use Rattle.page_lists.specs.Sizes.{IsSizeOf}
 use Rattle.page_runs.proofs.store.PageRuns.open.Goals as goal
 
 pub returns-clause-represents : goal.returns-clause-represents
@@ -29,3 +31,44 @@ returns-clause-crash g c =
     let opened = c.in_ok-opened.opened in
     subst (λ n. AddsNothing n (outcomes g.D.Disk c.args.files.log c.args.files.db) (may_leave c.in_ok-file.file)) (sym reads.keeps.stays.size)
     (AddsNothing-trans (page_size opened) _ _ _ c.in_ok-opened.ensures.crash reads.keeps.crash)
+
+pub returns-in_err-opened-clause-honest : goal.returns-in_err-opened-clause-honest
+returns-in_err-opened-clause-honest g c = IfOk-from_err c.from_residual.result _ c.from_residual.ensures.0
+
+pub returns-in_err-opened-clause-size : goal.returns-in_err-opened-clause-size
+returns-in_err-opened-clause-size g c = IfOk-from_err c.from_residual.result _ c.from_residual.ensures.0
+
+pub returns-in_err-opened-clause-represents : goal.returns-in_err-opened-clause-represents
+returns-in_err-opened-clause-represents g c = IfOk-from_err c.from_residual.result _ c.from_residual.ensures.0
+
+pub returns-in_err-opened-clause-crash : goal.returns-in_err-opened-clause-crash
+returns-in_err-opened-clause-crash g c = IfOk-from_err c.from_residual.result _ c.from_residual.ensures.0
+
+pub returns-in_err-opened-clause-keeps : goal.returns-in_err-opened-clause-keeps
+returns-in_err-opened-clause-keeps g c = IfOk-from_err c.from_residual.result _ c.from_residual.ensures.0
+
+pub returns-in_err-file-clause-honest : goal.returns-in_err-file-clause-honest
+returns-in_err-file-clause-honest g c = IfOk-from_err c.from_residual-in_err-file.result _ c.from_residual-in_err-file.ensures.0
+
+pub returns-in_err-file-clause-size : goal.returns-in_err-file-clause-size
+returns-in_err-file-clause-size g c = IfOk-from_err c.from_residual-in_err-file.result _ c.from_residual-in_err-file.ensures.0
+
+pub returns-in_err-file-clause-represents : goal.returns-in_err-file-clause-represents
+returns-in_err-file-clause-represents g c = IfOk-from_err c.from_residual-in_err-file.result _ c.from_residual-in_err-file.ensures.0
+
+pub returns-in_err-file-clause-crash : goal.returns-in_err-file-clause-crash
+returns-in_err-file-clause-crash g c = IfOk-from_err c.from_residual-in_err-file.result _ c.from_residual-in_err-file.ensures.0
+
+pub returns-in_err-file-clause-keeps : goal.returns-in_err-file-clause-keeps
+returns-in_err-file-clause-keeps g c = IfOk-from_err c.from_residual-in_err-file.result _ c.from_residual-in_err-file.ensures.0
+
+pub returns-clause-honest : goal.returns-clause-honest
+returns-clause-honest g c = λ faithful. c.in_ok-opened.ensures.honest (c.in_ok-file.ensures.reads.keeps.stays.clean faithful)
+
+pub returns-clause-size : goal.returns-clause-size
+returns-clause-size g c = λ faithful.
+    let reads = c.in_ok-file.ensures.reads in
+    subst (IsSizeOf (seen_image g.D.Disk c.args.files.log c.args.files.db)) (sym reads.keeps.stays.size) (c.in_ok-opened.ensures.size (reads.keeps.stays.clean faithful))
+
+pub returns-clause-keeps : goal.returns-clause-keeps
+returns-clause-keeps g c = c.new-2.ensures.limit

@@ -6,7 +6,8 @@ use Rattle.store_schema.specs.Tables.{cell_columns}
 use Rattle.page_lists.specs.Shown.{ShowsLines}
 use Rattle.page_runs.proofs.Taken.{large_shown}
 use Rattle.page_runs.specs.Kept.{HasGathered}
-use Rattle.page_runs.proofs.States.{asked, asked_keeping, none_told, stays_read}
+use Rattle.page_runs.proofs.States.{asked, asked_keeping, none_told, stays_read, asked_nothing, asked_usable}
+use Rattle.std.proofs.lemmas.Result.{IfOk-from_err}
 use Rattle.page_runs.proofs.store.PageRunsRunStore.each_cell.Goals as goal
 
 pub returns-clause-told : goal.returns-clause-told
@@ -36,3 +37,27 @@ returns-in_err-taken-clause-asks g c = asked _ _ c.each_cell.ensures.reads refl 
 
 pub returns-in_err-if_usable-2-clause-asks : goal.returns-in_err-if_usable-2-clause-asks
 returns-in_err-if_usable-2-clause-asks g c = asked _ _ c.each_cell.ensures.reads refl refl refl _ (none_told _ _ c.from_residual-in_err-if_usable-2.ensures.0)
+
+pub returns-in_err-table-clause-told : goal.returns-in_err-table-clause-told
+returns-in_err-table-clause-told g c = λ faithful t is. IfOk-from_err c.from_residual-in_err-table.result _ c.from_residual-in_err-table.ensures.0
+
+pub returns-in_err-table-clause-asks : goal.returns-in_err-table-clause-asks
+returns-in_err-table-clause-asks g c = asked_nothing _ c.args.self.now (none_told _ _ c.from_residual-in_err-table.ensures.0)
+
+pub returns-in_err-taken-clause-told : goal.returns-in_err-taken-clause-told
+returns-in_err-taken-clause-told g c = λ faithful t is. IfOk-from_err c.from_residual-in_err-taken.result _ c.from_residual-in_err-taken.ensures.0
+
+pub returns-in_err-if_usable-2-clause-told : goal.returns-in_err-if_usable-2-clause-told
+returns-in_err-if_usable-2-clause-told g c = λ faithful t is. IfOk-from_err c.from_residual-in_err-if_usable-2.result _ c.from_residual-in_err-if_usable-2.ensures.0
+
+pub returns-in_err-if_usable-clause-told : goal.returns-in_err-if_usable-clause-told
+returns-in_err-if_usable-clause-told g c = λ faithful t is. IfOk-from_err c.from_residual.result _ c.from_residual.ensures.0
+
+pub returns-in_err-if_usable-clause-asks : goal.returns-in_err-if_usable-clause-asks
+returns-in_err-if_usable-clause-asks g c = asked_nothing _ c.args.self.now (none_told _ _ c.from_residual.ensures.0)
+
+pub returns-in-Some-clause-told : goal.returns-in-Some-clause-told
+returns-in-Some-clause-told g c = λ faithful t is. c.each_kept.ensures (cells_in c.args.run t) (c.in-Some.ensures t is.shows.kept_cells)
+
+pub returns-in-Some-clause-asks : goal.returns-in-Some-clause-asks
+returns-in-Some-clause-asks g c = asked_usable c.args.self.now c.in_ok-if_usable.ensures _

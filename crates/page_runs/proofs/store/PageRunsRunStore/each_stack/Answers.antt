@@ -4,7 +4,8 @@ use Rattle.plain_tables.specs.Tables.{StoredStack}
 use Rattle.store_schema.specs.Tables.{stack_columns}
 use Rattle.page_lists.specs.Shown.{ShowsLines}
 use Rattle.page_runs.proofs.Taken.{large_shown}
-use Rattle.page_runs.proofs.States.{asked, none_told}
+use Rattle.page_runs.proofs.States.{asked, none_told, asked_nothing}
+use Rattle.std.proofs.lemmas.Result.{IfOk-from_err}
 use Rattle.page_runs.proofs.store.PageRunsRunStore.each_stack.Goals as goal
 
 pub returns-clause-told : goal.returns-clause-told
@@ -25,3 +26,15 @@ returns-in_err-taken-clause-asks g c = asked _ _ c.each_stack.ensures.reads refl
 
 pub returns-in_err-if_usable-clause-asks : goal.returns-in_err-if_usable-clause-asks
 returns-in_err-if_usable-clause-asks g c = asked _ _ c.each_stack.ensures.reads refl refl refl _ (none_told _ _ c.from_residual-in_err-if_usable.ensures.0)
+
+pub returns-in_err-table-clause-told : goal.returns-in_err-table-clause-told
+returns-in_err-table-clause-told g c = λ faithful t is. IfOk-from_err c.from_residual.result _ c.from_residual.ensures.0
+
+pub returns-in_err-table-clause-asks : goal.returns-in_err-table-clause-asks
+returns-in_err-table-clause-asks g c = asked_nothing _ c.args.self.now (none_told _ _ c.from_residual.ensures.0)
+
+pub returns-in_err-taken-clause-told : goal.returns-in_err-taken-clause-told
+returns-in_err-taken-clause-told g c = λ faithful t is. IfOk-from_err c.from_residual-in_err-taken.result _ c.from_residual-in_err-taken.ensures.0
+
+pub returns-in_err-if_usable-clause-told : goal.returns-in_err-if_usable-clause-told
+returns-in_err-if_usable-clause-told g c = λ faithful t is. IfOk-from_err c.from_residual-in_err-if_usable.result _ c.from_residual-in_err-if_usable.ensures.0

@@ -1,4 +1,5 @@
 use Rattle.std.proofs.Common.{map, refl}
+use Rattle.std.proofs.lemmas.Result.{IfOk-from_err}
 use Rattle.store_schema.specs.Tables.{name_columns}
 use Rattle.page_runs.proofs.Taken.{large_shown}
 use Rattle.page_runs.proofs.States.{asked, none_answered}
@@ -15,3 +16,9 @@ returns-in_err-answer-clause-asks g c = asked _ _ c.holds_names.ensures.reads re
 
 pub returns-in_err-if_usable-clause-asks : goal.returns-in_err-if_usable-clause-asks
 returns-in_err-if_usable-clause-asks g c = asked _ _ c.holds_names.ensures.reads refl refl refl _ (none_answered _ c.from_residual-in_err-if_usable.ensures.0)
+
+pub returns-in_err-answer-clause-told : goal.returns-in_err-answer-clause-told
+returns-in_err-answer-clause-told g c = λ faithful t is. IfOk-from_err c.from_residual.result _ c.from_residual.ensures.0
+
+pub returns-in_err-if_usable-clause-told : goal.returns-in_err-if_usable-clause-told
+returns-in_err-if_usable-clause-told g c = λ faithful t is. IfOk-from_err c.from_residual-in_err-if_usable.result _ c.from_residual-in_err-if_usable.ensures.0

@@ -1,4 +1,15 @@
+use Rattle.std.proofs.lemmas.Result.{IfOk-from_err}
+use Rattle.page_runs.proofs.States.{asked_nothing, asked_usable, none_answered}
 use Rattle.page_runs.proofs.store.PageRunsRunStore.run_numbers.Goals as goal
 
+pub returns-in_err-if_usable-clause-told : goal.returns-in_err-if_usable-clause-told
+returns-in_err-if_usable-clause-told g c = λ faithful t is. IfOk-from_err c.from_residual.result _ c.from_residual.ensures.0
+
+pub returns-in_err-if_usable-clause-asks : goal.returns-in_err-if_usable-clause-asks
+returns-in_err-if_usable-clause-asks g c = asked_nothing _ c.args.self.now (none_answered _ c.from_residual.ensures.0)
+
 pub returns-clause-told : goal.returns-clause-told
-returns-clause-told g c faithful t is = c.run_numbers.ensures.told t is.shows.listed
+returns-clause-told g c = λ faithful t is. c.run_numbers.ensures.told t is.shows.listed
+
+pub returns-clause-asks : goal.returns-clause-asks
+returns-clause-asks g c = asked_usable c.args.self.now c.in_ok-if_usable.ensures _

@@ -1,4 +1,7 @@
+use Rattle.std.specs.Result.{is_ok}
 use Rattle.std.proofs.Common.{◌∙◌, subst, sym, [], ◌∷◌}
+use Rattle.std.proofs.lemmas.Result.{IfOk-from_err}
+use Rattle.sqlite_exec.proofs.MarkLemmas.{if_ok_then}
 use Rattle.sqlite_value.specs.declared.value.Value.TheVariants.{Blob}
 use Rattle.sqlite.specs.Held.{state}
 use Rattle.sqlite.specs.State.{QueriesRow}
@@ -20,22 +23,24 @@ returns-clause-found g c clean has =
     let old = shown g.S.Store c.args.self.now in
     let new = state g.S.Store c.select_first.new.conn in
     let row = rw c.params-to_sql.ensures at (c.in_ok-row.ensures.row clean) in
-    let found = c.in_ok-number_in.field-0 in
-    let is = c.in_ok-number_in.ensures.read in
+    if_ok_then c.number_in.result c.number_in.ensures.read (λ found is.
     either_found found is
     (λ none. digest_absent digest old new has (none_there schema_two by_digest_sql _ _ by_digest_means by_digest_plain (Blob digest ∷ []) old new has (subst (λ r. QueriesRow by_digest_sql (Blob digest ∷ []) old new (row_or_none r)) none row)))
     (λ n some.
     let it = digest_found digest old new has some.0 (subst (λ r. QueriesRow by_digest_sql (Blob digest ∷ []) old new (row_or_none r)) some.1 row) in
-    (it.0, it.1, it.2, sym it.3 ∙ some.2))
+    (it.0, it.1, it.2, sym it.3 ∙ some.2)))
 
 pub returns-clause-told : goal.returns-clause-told
-returns-clause-told g c clean t was = digest_told t _ (said t _ was.holds) c.args.digest.now c.in_ok-number_in.field-0 (returns-clause-found g c clean was.schema_is)
+returns-clause-told g c clean t was = if_ok_then c.number_in.result (returns-clause-found g c clean was.schema_is) (λ n found. digest_told t _ (said t _ was.holds) c.args.digest.now n found)
 
 pub returns-clause-asks : goal.returns-clause-asks
-returns-clause-asks g c clean = c.in_ok-row.ensures.asked clean by_digest_plain
-
-pub returns-in_err-number_in-clause-asks : goal.returns-in_err-number_in-clause-asks
-returns-in_err-number_in-clause-asks g c clean = asked_if schema_two _ _ _ (c.in_ok-row.ensures.asked clean by_digest_plain)
+returns-clause-asks g c clean = asked_if schema_two (is_ok c.number_in.result) _ _ (c.in_ok-row.ensures.asked clean by_digest_plain)
 
 pub returns-in_err-row-clause-asks : goal.returns-in_err-row-clause-asks
 returns-in_err-row-clause-asks g c clean = asked_err schema_two c.from_residual.result _ _ c.from_residual.ensures.0 (c.in_err-row.ensures.asked clean by_digest_plain)
+
+pub returns-in_err-row-clause-told : goal.returns-in_err-row-clause-told
+returns-in_err-row-clause-told g c clean t was = IfOk-from_err c.from_residual.result _ c.from_residual.ensures.0
+
+pub returns-in_err-row-clause-found : goal.returns-in_err-row-clause-found
+returns-in_err-row-clause-found g c clean has = IfOk-from_err c.from_residual.result _ c.from_residual.ensures.0

@@ -1,8 +1,9 @@
-use Rattle.std.proofs.Common.{◌≡◌, ◌<◌, ◌^◌, ◌+◌, ◌∙◌, ◌++◌, ◌∷◌, [], refl, take, length, All, ap, sym, subst, arith}
+use Rattle.std.proofs.Common.{◌≡◌, ◌<◌, ◌^◌, ◌+◌, ◌∙◌, ◌++◌, ◌∷◌, [], refl, take, length, map, All, ap, sym, subst, arith}
+use Rattle.std.proofs.lemmas.Result.{IfOk-from_err}
 use Rattle.std.proofs.lemmas.List.{take_all, length-append}
 use Rattle.std.proofs.lemmas.List.Elements.{All-push}
 use Rattle.sqlite.specs.Effect.{Database}
-use Rattle.sql_tables.proofs.Calls.{asked_more, asked_rests_yet}
+use Rattle.sql_tables.proofs.Calls.{asked_more, asked_none, asked_refused, asked_rests_yet}
 use Rattle.store_schema.specs.Schema.{schema_two}
 use Rattle.prof_store.specs.Readings.{RowsSay}
 use Rattle.prof_store.specs.Shown.{shown}
@@ -60,3 +61,29 @@ events-preserved g c =
 pub returns-clause-found : goal.returns-clause-found
 returns-clause-found g c clean has =
     let events = c.args.events.now in subst (λ l. AreSums (shown g.S.Store c.args.self.now).now.trees l (c.events.own, c.events.calls)) (take_all c.events.event-index events (omega (arith, c.events-test.false))) (c.events.invariant.found clean has)
+
+pub returns-in_err-sums-clause-told : goal.returns-in_err-sums-clause-told
+returns-in_err-sums-clause-told g c clean t was = IfOk-from_err c.from_residual.result _ c.from_residual.ensures.0
+
+pub returns-in_err-sums-clause-found : goal.returns-in_err-sums-clause-found
+returns-in_err-sums-clause-found g c clean has = IfOk-from_err c.from_residual.result _ c.from_residual.ensures.0
+
+pub returns-in_err-sums-clause-bounded : goal.returns-in_err-sums-clause-bounded
+returns-in_err-sums-clause-bounded g c = IfOk-from_err c.from_residual.result _ c.from_residual.ensures.0
+
+pub returns-in_err-sums-clause-columns : goal.returns-in_err-sums-clause-columns
+returns-in_err-sums-clause-columns g c = IfOk-from_err c.from_residual.result _ c.from_residual.ensures.0
+
+pub returns-clause-told : goal.returns-clause-told
+returns-clause-told g c clean t was =
+    let events = c.args.events.now in
+    let all = take_all c.events.event-index events (omega (arith, c.events-test.false)) in
+    let told = c.events.invariant.told clean t was in (
+      told.0 ∙ ap (map (held_self t)) all,
+      told.1 ∙ ap (map (held_calls t)) all,
+    )
+
+pub returns-then-is_err-clause-asks : goal.returns-then-is_err-clause-asks
+returns-then-is_err-clause-asks g c clean =
+    let one = c.in_ok-sums.ensures.asks clean in
+    asked_refused schema_two _ _ _ (asked_more schema_two _ _ _ (c.events.invariant.asked one.stays.was_clean) one)

@@ -1,4 +1,4 @@
-use Rattle.std.proofs.Common.{◌≡◌, ℕ, true, ◌∷◌, ◌++◌, ◌+◌, ◌<◌, length, take, get_or, refl, sym, ap, subst, ◌∙◌, rules, arith, length-take-le}
+use Rattle.std.proofs.Common.{◌≡◌, ℕ, true, ◌∷◌, ◌++◌, ◌+◌, ◌<◌, length, take, get_or, refl, sym, ap, subst, ◌∙◌, rules, arith, length-take-le, take_all}
 use Rattle.std.specs.Bool.{⊤}
 use Rattle.std.proofs.lemmas.List.{take_more}
 use Rattle.plain_tables.specs.Changes.{with_calls}
@@ -45,3 +45,16 @@ returns-in_err-insert_cost g c = (
   refl,
   queues_err g.S.Store with_calls call_row {given = λ _. ⊤} {change = λ t. t} c.from_residual-in_err-insert_cost.result c.from_residual-in_err-insert_cost.ensures.0 (then_refused g.S.Store c.costs.invariant.writes c.in_err-insert_cost.ensures.writes),
 )
+
+pub returns : goal.returns
+returns g c =
+    let run = c.args.run in
+    let numbers = c.args.numbers.now in
+    let row = c.args.self.now in
+    let costs = row.costs.now in
+    let first = part_line run numbers row 0 row.count in
+    let all : take c.costs.column costs ≡ costs = grind (arith, take_all) in (
+      row_lines run numbers row,
+      refl,
+      subst (λ l. Queues g.S.Store call_row with_calls true c.args.waiting.now.items (first ∷ call_rows_from run numbers (call_of_call row) 1 l) c.costs.waiting.items c.args.tx.now c.costs.tx) all c.costs.invariant,
+    )
