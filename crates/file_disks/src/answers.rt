@@ -12,14 +12,15 @@ use std::rt::HostRuntime;
 pub struct IfStands<'a, W: Drop> {
     out: W,
     rt: &'a HostRuntime,
-    standing: Standing,
+    /// What the file was; none where nobody else may write it.
+    standing: Option<Standing>,
     /// What was seen at the first byte.
     stood: Option<bool>,
 }
 
 impl<'a, W: Write + Drop> IfStands<'a, W> {
-    /// Nothing is printed yet.
-    pub fn new(out: W, rt: &'a HostRuntime, standing: Standing) -> IfStands<'a, W>
+    /// Nothing is printed yet. With no `standing`, nobody else may write the file, and all is printed.
+    pub fn new(out: W, rt: &'a HostRuntime, standing: Option<Standing>) -> IfStands<'a, W>
         ensures { result.out ≡ out }
     {
         IfStands {
@@ -38,7 +39,10 @@ impl<'a, W: Write + Drop> IfStands<'a, W> {
         if let Some(stood) = self.stood {
             return stood;
         }
-        let stood = matches!(self.standing.stands(self.rt), Ok(true));
+        let stood = match &self.standing {
+            Some(standing) => matches!(standing.stands(self.rt), Ok(true)),
+            None => true,
+        };
         self.stood = Some(stood);
         stood
     }

@@ -1,5 +1,5 @@
 // Files of one kind, taken for files of either.
-ghost use Rattle.std.specs.Prelude.{◌≡◌};
+ghost use Rattle.std.specs.Prelude.{◌≡◌, IfSome};
 ghost use Rattle.file_disks.specs.Either.{are_one, are_other};
 
 use crate::either::EitherDisk;
@@ -22,5 +22,15 @@ pub fn as_other<A: Disk, B: Disk>(files: Files<B>) -> Files<EitherDisk<A, B>>
     Files {
         log: EitherDisk::Other(files.log),
         db: EitherDisk::Other(files.db),
+    }
+}
+
+/// Files that are of the second kind; none where one of them is of the first.
+pub fn other_of<A: Disk + Drop, B: Disk + Drop>(files: Files<EitherDisk<A, B>>) -> Option<Files<B>>
+    ensures { IfSome result (λ other. files ≡ are_other other) }
+{
+    match (files.log, files.db) {
+        (EitherDisk::Other(log), EitherDisk::Other(db)) => Some(Files { log, db }),
+        _ => None,
     }
 }

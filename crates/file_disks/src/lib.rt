@@ -27,6 +27,6 @@ pub use disk::ReadOnly;
 pub use either::EitherDisk;
 pub use files::read_only;
 pub use host::FileToRead;
-pub use kinds::{as_one, as_other};
+pub use kinds::{as_one, as_other, other_of};
 pub use looks::Look;
 pub use opening::{FileOf, Standing, Unopened, open_to_look, open_to_read};

@@ -95,7 +95,7 @@ impl Standing {
     }
 }
 
-/// The first bytes of a log, with zeros where it is shorter. No guarantee: as above, and so below, but for `open_pair`,
+/// The first bytes of a log, with zeros where it is shorter. No guarantee: as above, and so below, but for `pair_of`,
 /// `open_to_look` and `open_to_read`.
 fn head_of(log: &fs::File) -> io::Result<[u8; LOG_HEAD]> {
     let mut head = [0; LOG_HEAD];
@@ -169,48 +169,72 @@ fn open_database(rt: &HostRuntime, path: &str) -> Result<(fs::File, Look), Unope
     Ok((open_seen(rt, path, &look, is_plain)?, look))
 }
 
-/// Opens a log to read, and takes note of its head.
-fn begin_log(log: Option<fs::File>) -> io::Result<(Option<fs::File>, [u8; LOG_HEAD])> {
-    match log {
-        Some(log) => {
-            let head = head_of(&log)?;
-            Ok((Some(log), head))
-        }
-        None => Ok((None, [0; LOG_HEAD])),
-    }
-}
-
-/// A second handle of a log.
-fn twice(log: &Option<fs::File>) -> io::Result<Option<fs::File>> {
-    match log {
-        Some(log) => Ok(Some(log.try_clone()?)),
-        None => Ok(None),
-    }
-}
-
-/// Opens the log beside a database file to read, unless a journal lies there. A log that is missing is as one of no
-/// bytes. Both files come back, and the log once more, with its head. `S` stands for what they hold: they are noted as
-/// settled, though nothing was synced.
-fn open_pair<S: Start>(
-    rt: &HostRuntime,
-    path: &str,
-    db: fs::File,
-) -> Result<(Files<FileOf<S>>, Option<fs::File>, [u8; LOG_HEAD]), Unopened>
-    ensures log { IfOk result (λ opened. IsTrue (file_is_usable S.Start opened.0.log)) }
-    ensures db { IfOk result (λ opened. IsTrue (file_is_usable S.Start opened.0.db)) }
-    ensures fresh { IfOk result (λ opened. IsFresh true opened.0.log × IsFresh false opened.0.db) }
-{
-    if !is_free(rt, format!(in rt.alloc(); "{path}-journal")?.as_str())? {
+/// Opens the log beside a database file to read, if there is one, unless a journal lies there.
+fn open_beside(rt: &HostRuntime, path: &str) -> Result<Option<fs::File>, Unopened> {
+    let journal = format!(in rt.alloc(); "{path}-journal")?;
+    if !is_free(rt, journal.as_str())? {
         return Err(Unopened::Unfit);
     }
-    let log_path = format!(in rt.alloc(); "{path}-wal")?;
-    let (log, head) = begin_log(open_log(rt, log_path.as_str())?)?;
-    let key = RandomState::new(rt)?.hash_one(&0u8);
-    let files = Files {
-        log: Modelled::new(FileToRead::new(twice(&log)?, key), true, key),
-        db: Modelled::new(FileToRead::new(Some(db), key), false, key),
+    drop(journal);
+    let log = format!(in rt.alloc(); "{path}-wal")?;
+    open_log(rt, log.as_str())
+}
+
+/// Two handles of a log, and its first bytes.
+fn twice(
+    log: Option<fs::File>,
+) -> io::Result<(Option<fs::File>, Option<fs::File>, [u8; LOG_HEAD])> {
+    let Some(log) = log else {
+        return Ok((None, None, [0; LOG_HEAD]));
     };
-    Ok((files, log, head))
+    let head = head_of(&log)?;
+    Ok((Some(log.try_clone()?), Some(log), head))
+}
+
+/// The secret under which digests of what is read are taken.
+fn new_key(rt: &HostRuntime) -> io::Result<u64> {
+    Ok(RandomState::new(rt)?.hash_one(&0u8))
+}
+
+/// The files of a database. A log that is missing is as one of no bytes. `S` stands for what they hold: they are noted as
+/// settled, though nothing was synced.
+fn pair_of<S: Start>(log: Option<fs::File>, db: fs::File, key: u64) -> Files<FileOf<S>>
+    ensures log { IsTrue (file_is_usable S.Start result.log) }
+    ensures db { IsTrue (file_is_usable S.Start result.db) }
+    ensures fresh { IsFresh true result.log × IsFresh false result.db }
+{
+    Files {
+        log: Modelled::new(FileToRead::new(log, key), true, key),
+        db: Modelled::new(FileToRead::new(Some(db), key), false, key),
+    }
+}
+
+/// Opens the database file at a path and its log.
+fn open_both(rt: &HostRuntime, path: &str) -> Result<(Option<fs::File>, fs::File), Unopened> {
+    let path = fs::canonicalize(rt, path)?;
+    let (look, is_plain) = look_at(rt, path.as_str())?;
+    let db = open_seen(rt, path.as_str(), &look, is_plain)?;
+    let log = open_beside(rt, path.as_str())?;
+    Ok((log, db))
+}
+
+/// Opens the database file at a path and its log, and tells what they were then.
+fn open_standing(
+    rt: &HostRuntime,
+    path: &str,
+) -> Result<(Option<fs::File>, fs::File, Standing), Unopened> {
+    let path = fs::canonicalize(rt, path)?;
+    let (db, look) = open_database(rt, path.as_str())?;
+    let is_read_with_log = has_log(&db)?;
+    let (read, log, head) = twice(open_beside(rt, path.as_str())?)?;
+    let standing = Standing {
+        path,
+        look,
+        is_read_with_log,
+        log,
+        head,
+    };
+    Ok((read, db, standing))
 }
 
 /// Opens the database file at a path and its log to read, as `open_to_read`, and waits for no clock. Nothing tells whether
@@ -224,11 +248,9 @@ pub fn open_to_look<S: Start>(
     ensures db { IfOk result (λ files. IsTrue (file_is_usable S.Start files.db)) }
     ensures fresh { IfOk result (λ files. IsFresh true files.log × IsFresh false files.db) }
 {
-    let path = fs::canonicalize(rt, path)?;
-    let (look, is_plain) = look_at(rt, path.as_str())?;
-    let db = open_seen(rt, path.as_str(), &look, is_plain)?;
-    let (files, _log, _head) = open_pair(rt, path.as_str(), db)?;
-    Ok(files)
+    let key = new_key(rt)?;
+    let (log, db) = open_both(rt, path)?;
+    Ok(pair_of(log, db, key))
 }
 
 /// Opens the database file at a path and its log to read, and tells what they were then. A log that is missing is as
@@ -243,16 +265,7 @@ pub fn open_to_read<S: Start>(
     ensures db { IfOk result (λ opened. IsTrue (file_is_usable S.Start opened.0.db)) }
     ensures fresh { IfOk result (λ opened. IsFresh true opened.0.log × IsFresh false opened.0.db) }
 {
-    let path = fs::canonicalize(rt, path)?;
-    let (db, look) = open_database(rt, path.as_str())?;
-    let is_read_with_log = has_log(&db)?;
-    let (files, log, head) = open_pair(rt, path.as_str(), db)?;
-    let standing = Standing {
-        path,
-        look,
-        is_read_with_log,
-        log,
-        head,
-    };
-    Ok((files, standing))
+    let key = new_key(rt)?;
+    let (log, db, standing) = open_standing(rt, path)?;
+    Ok((pair_of(log, db, key), standing))
 }

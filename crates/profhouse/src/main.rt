@@ -4,13 +4,13 @@
 ghost use Rattle.std.specs.Prelude.{true, [], None};
 
 use anyhow::Result;
-use page_openers::{HostOpener, PathOpener};
+use host_stores::{HostOpener, Openings};
 use program_stores::Outputs;
 use sqlite_disk::Start;
 use std::io;
 use std::io::Printer;
 use std::process::ExitCode;
-use store_paths::Openings;
+use store_openers::PathOpener;
 
 /// The files of the host. Of what they hold the checker knows nothing: what is proved is so for all that they may hold. As
 /// the kit's `Unknown`, it supposes that a torn write leaves each byte old or new.

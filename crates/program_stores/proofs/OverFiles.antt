@@ -96,11 +96,10 @@ module _ {F V W : Type 0} (remaining : F → Option (List ℕ)) (contents : W �
       (tells_inner (state_of {D = D} {g = g}) job start done.came_to done.out limits steps tells)))
       was
 
-module _ {F W : Type 0} (remaining : F → Option (List ℕ)) (contents : W → Option (List ℕ)) where
-  -- of a job behind which the store was only asked
-  pub done_asked : {D : Type 0} {g : Ghosts D} (image : Image) (job : Job) (start fresh : Option (List ℕ)) (done : Done D W g) (new : PageRuns D g) (answered : Bool) → start ≡ fresh
-      → WasDone remaining contents image job start done → Asks state_of answered done.store new
-      → Works image (Tells remaining contents (state_of {D = D} {g = g}) job fresh done.came_to done.out) new
-  done_asked {D} {g} image job start fresh done new answered begins was asks =
-      works_asked image (Tells remaining contents (state_of {D = D} {g = g}) job fresh done.came_to done.out) answered done.store new
-      (subst (λ it. WasDone remaining contents image job it done) begins was) asks
+  -- and where the store was only asked since
+  pub done_asked : {D : Type 0} {g : Ghosts D} (image : Image) (job : Job) (start fresh : Option (List ℕ)) (done : Done D V g) (to : W) (new : PageRuns D g) (answered : Bool)
+      → start ≡ fresh → to ≡ inner done.out → WasDone remaining (λ v. contents (inner v)) image job start done → Asks state_of answered done.store new
+      → Works image (Tells remaining contents (state_of {D = D} {g = g}) job fresh done.came_to to) new
+  done_asked {D} {g} image job start fresh done to new answered begins ends was asks =
+      works_asked image (Tells remaining contents (state_of {D = D} {g = g}) job fresh done.came_to to) answered done.store new
+      (done_through image job start fresh done to begins ends was) asks

@@ -15,8 +15,8 @@ use std::fs;
 use std::fs::File;
 use std::io::Read;
 use std::rt::HostRuntime;
-use store_openers::{Opener, Unread};
-use store_paths::{Patience, TRIES, is_no_file};
+use store_openers::Opener;
+use store_paths::{Patience, TRIES, Unread, is_no_file};
 
 /// So often it is tried, even where that takes longer than patience lasts.
 const LEAST_TRIES: u32 = 3;
@@ -45,7 +45,7 @@ fn done_beside<'a, D: Disk + Drop, O: Outputs>(
     ensures { (image : Image) → IsStoreOf image store → IfOk result (WasDone ⟦<File as Read>⟧.remaining O.Out.contents image job.entry O.Outputs.fresh) }
 {
     let mut remarks = Vec::new(rt.alloc());
-    let out = IfStands::new(outputs.next(), rt, standing);
+    let out = IfStands::new(outputs.next(), rt, Some(standing));
     let Done {
         came_to,
         mut out,

@@ -7,14 +7,15 @@ ghost use Rattle.program_stores.specs.Theorem.{WasDone};
 use crate::beside::work_beside;
 use crate::jobs::{Done, Job, Outputs, done_over};
 use crate::telling::{tell_person, tell_remarks};
+use file_disks::IfStands;
 use page_runs::PageRuns;
 use prof_store::OpenError;
 use sqlite_disk::Disk;
 use std::fs::File;
 use std::io::Read;
 use std::rt::HostRuntime;
-use store_openers::{Opener, Unread, look_beside};
-use store_paths::{NotOpened, Patience};
+use store_openers::{Opener, look_beside};
+use store_paths::{NotOpened, Patience, Unread};
 
 /// The store at a path, to be changed with no other beside. What is not plainly ours is looked at in its database first,
 /// which migrates a store of version 1 and says what is wrong with others; `P` says what the files hold then.
@@ -50,10 +51,20 @@ fn done_alone<'a, D: Disk + Drop, O: Outputs>(
     ensures { (image : Image) → IsStoreOf image store → WasDone ⟦<File as Read>⟧.remaining O.Out.contents image job.entry O.Outputs.fresh result }
 {
     let mut remarks = Vec::new(rt.alloc());
-    let mut done = done_over(rt, outputs.next(), store, job, &mut remarks);
+    // (what prints is of one type, so that it is compiled once)
+    let out = IfStands::new(outputs.next(), rt, None);
+    let Done {
+        came_to,
+        out,
+        mut store,
+    } = done_over(rt, out, store, job, &mut remarks);
     tell_remarks(rt, &remarks);
-    let _copied = done.store.checkpoint();
-    done
+    let _copied = store.checkpoint();
+    Done {
+        came_to,
+        out: out.into_out(),
+        store,
+    }
 }
 
 /// Does a job over the store at a path, with no other beside: one that only reads over the files as they are, if their log

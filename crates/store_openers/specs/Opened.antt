@@ -1,9 +1,6 @@
 -- A history that files hold, and the store that is opened over them by its pages.
-use Rattle.std.specs.Prelude.{◌≡◌, IsTrue}
+use Rattle.std.specs.Prelude.{◌≡◌}
 use Rattle.sqlite_disk.specs.declared.Disk.{Ghosts}
-use Rattle.sqlite_disk.specs.declared.Files.{Files}
-use Rattle.sqlite_wal.specs.Files.{seen_image}
-use Rattle.sqlite_wal.specs.Reads.{AreClean}
 use Rattle.sqlite_wal.specs.Recovery.{Image}
 use Rattle.page_files.specs.Files.{page_size}
 use Rattle.plain_tables.specs.Tables.{Tables}
@@ -15,12 +12,6 @@ use Rattle.histories.specs.History.{History}
 use Rattle.histories.specs.Legal.{IsHistory}
 use Rattle.histories.specs.Representation.{TablesRepresent}
 use Rattle.histories.specs.Answered.{HasHistory}
-
--- files can be used, and show this, where no wrong answer was taken as true
-pub record ShowImage {D : Type 0} (g : Ghosts D) (image : Image) (files : Files D) : Type 0 where
-  pub log : IsTrue (g.is_usable files.log)
-  pub db : IsTrue (g.is_usable files.db)
-  pub shows : AreClean g files.log files.db → seen_image g files.log files.db ≡ image
 
 -- files, of pages of a size, hold tables that represent a history
 pub record HoldHistory (h : History) (left : Left) : Type 0 where

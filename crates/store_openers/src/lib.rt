@@ -6,9 +6,13 @@
 mod opener;
 // Opens the store in files (specs/Opened.antt).
 mod opening;
-// Why a store that is not to be changed is refused, and whether what was read beside others is what one commit left.
+// Why a store that is not to be changed is refused.
 mod looking;
+// Why the store at a path is not read beside others, as its database says.
+mod refusing;
+// What opens the store at a path, over any files.
+mod path_openers;
 
-pub use looking::{has_stood, kept_beside, look_beside};
-pub use opener::{Opener, Unread};
-pub use opening::{may_be_changed_in, store_in, store_to_change_in};
+pub use looking::look_beside;
+pub use opener::Opener;
+pub use path_openers::PathOpener;

@@ -1,26 +1,16 @@
-// Why a store that is not to be changed is refused, and whether what was read beside others is what one commit left.
+// Why a store that is not to be changed is refused.
 ghost use Rattle.std.specs.Prelude.{◌≡◌, IfOk};
 
-use crate::opener::{Opener, Unread};
+use crate::opener::Opener;
 use crate::opening::changed_by_another;
 use file_disks::Standing;
 use page_runs::PageRuns;
 use sqlite_disk::Disk;
 use std::rt::HostRuntime;
-use store_paths::{NotOpened, is_no_file};
-
-/// Whether the log is still the one that was read. No guarantee: of files the checker knows nothing, here and below.
-fn has_same_log(standing: &Standing) -> bool {
-    matches!(standing.has_same_log(), Ok(true))
-}
-
-/// Whether what was read is what one commit left.
-pub fn has_stood(rt: &HostRuntime, standing: &Standing) -> bool {
-    has_same_log(standing) && matches!(standing.stands(rt), Ok(true))
-}
+use store_paths::{NotOpened, Unread, has_same_log, has_stood, is_no_file};
 
 /// A store that was opened beside others, if its log is still the one that was read.
-pub fn kept_beside<D: Disk + Drop>(
+pub(crate) fn kept_beside<D: Disk + Drop>(
     store: PageRuns<D>,
     standing: Standing,
 ) -> Result<(PageRuns<D>, Standing), Unread>
@@ -36,7 +26,7 @@ pub fn kept_beside<D: Disk + Drop>(
 
 /// Refuses the store at a path that is not to be opened to be changed, for what it is: no lock is taken, and nothing is
 /// made or changed. The opening itself refuses what was not seen here: files that are not to be read beside others, or that
-/// others write.
+/// others write. No guarantee: of files the checker knows nothing.
 pub fn look_beside<P: Opener>(rt: &HostRuntime, path: &str) -> Result<(), NotOpened> {
     if is_no_file(path) || P::may_be_changed(rt, path) {
         return Ok(());

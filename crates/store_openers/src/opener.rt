@@ -7,20 +7,7 @@ use file_disks::Standing;
 use page_runs::PageRuns;
 use sqlite_disk::Disk;
 use std::rt::HostRuntime;
-use store_paths::{NotOpened, Patience};
-
-/// Why the store at a path is not read beside others, who may write it.
-#[derive(Drop)]
-pub enum Unread {
-    /// Others wrote while the store was read.
-    Moved,
-    /// The store is refused, and nothing of it was written.
-    Refused(NotOpened),
-    /// It is of version 1, and is brought up to this one when it is opened to be changed.
-    First,
-    /// Nothing is known of it: the files are not to be read so, or what is asked of it changes it.
-    Unfit,
-}
+use store_paths::{NotOpened, Patience, Unread};
 
 /// Opens the store at a path by its pages. What is written over any opener knows no kind of file, and is proved for all that
 /// the files may hold. Of which files are at a path the checker knows nothing: so what makes a store there, or looks at it, has

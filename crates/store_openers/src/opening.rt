@@ -3,7 +3,8 @@ ghost use Rattle.std.specs.Prelude.{◌≡◌, Some, IfOk, IsTrue};
 ghost use Rattle.sqlite_wal.specs.Recovery.{Image};
 ghost use Rattle.store_paths.specs.declared.errors.Cause.TheVariants as causes;
 ghost use Rattle.store_schema.specs.declared.errors.OpenError.TheVariants as ends;
-ghost use Rattle.store_openers.specs.Opened.{IsStoreOf, ShowImage};
+ghost use Rattle.store_paths.specs.Shown.{ShowImage};
+ghost use Rattle.store_openers.specs.Opened.{IsStoreOf};
 
 use page_runs::PageRuns;
 use plain_tables::StoreError;
@@ -15,7 +16,7 @@ use store_paths::{Cause, NotOpened};
 
 /// The store in files, opened by its pages, which keeps so many cells of small runs in memory: where they hold rows that
 /// represent a history, it represents that. As at `PageRuns::open`, no clause says which error comes.
-pub fn store_in<D: Disk + Drop>(
+pub(crate) fn store_in<D: Disk + Drop>(
     alloc: Global,
     files: Files<D>,
     options: Options,
@@ -40,7 +41,7 @@ pub(crate) fn changed_by_another() -> NotOpened
 }
 
 /// The same, to be changed: refused where another program has put an index or a trigger on its tables.
-pub fn store_to_change_in<D: Disk + Drop>(
+pub(crate) fn store_to_change_in<D: Disk + Drop>(
     alloc: Global,
     files: Files<D>,
     options: Options,
@@ -61,7 +62,11 @@ pub fn store_to_change_in<D: Disk + Drop>(
 }
 
 /// Whether the pages of the store in files say that it may be changed. No guarantee: where it is not opened, the answer is no.
-pub fn may_be_changed_in<D: Disk + Drop>(alloc: Global, files: Files<D>, options: Options) -> bool
+pub(crate) fn may_be_changed_in<D: Disk + Drop>(
+    alloc: Global,
+    files: Files<D>,
+    options: Options,
+) -> bool
     requires log { IsTrue (D.Disk.is_usable files.log) }
     requires db { IsTrue (D.Disk.is_usable files.db) }
 {

@@ -1,4 +1,3 @@
 pub mod Errors
-pub mod NewStores
 pub mod Paths
-pub mod Stores
+pub mod Shown

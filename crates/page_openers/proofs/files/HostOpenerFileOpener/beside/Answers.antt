@@ -1,5 +1,0 @@
-use Rattle.sqlite_wal.specs.Files.{image_at}
-use Rattle.page_openers.proofs.files.HostOpenerFileOpener.beside.Goals as goal
-
-pub returns-in-Ok : goal.returns-in-Ok
-returns-in-Ok g c = c.held_beside.ensures (image_at g.S.Start) c.read_as_third.ensures

@@ -1,4 +1,0 @@
-use Rattle.page_openers.proofs.openings.PathOpenerOpener.alone.Goals as goal
-
-pub returns : goal.returns
-returns g c = c.in_ok-store_in.ensures g.F.FileOpener.image c.in_ok-files.ensures

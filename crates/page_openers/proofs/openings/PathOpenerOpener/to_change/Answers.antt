@@ -1,4 +1,0 @@
-use Rattle.page_openers.proofs.openings.PathOpenerOpener.to_change.Goals as goal
-
-pub returns : goal.returns
-returns g c = c.store_to_change_in.ensures g.F.FileOpener.image c.in_ok-files.ensures

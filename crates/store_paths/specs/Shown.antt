@@ -1,0 +1,13 @@
+-- What the files of a store show as they are opened.
+use Rattle.std.specs.Prelude.{◌≡◌, IsTrue}
+use Rattle.sqlite_disk.specs.declared.Disk.{Ghosts}
+use Rattle.sqlite_disk.specs.declared.Files.{Files}
+use Rattle.sqlite_wal.specs.Files.{seen_image}
+use Rattle.sqlite_wal.specs.Reads.{AreClean}
+use Rattle.sqlite_wal.specs.Recovery.{Image}
+
+-- files can be used, and show this, where no wrong answer was taken as true
+pub record ShowImage {D : Type 0} (g : Ghosts D) (image : Image) (files : Files D) : Type 0 where
+  pub log : IsTrue (g.is_usable files.log)
+  pub db : IsTrue (g.is_usable files.db)
+  pub shows : AreClean g files.log files.db → seen_image g files.log files.db ≡ image
