@@ -23,16 +23,16 @@ returns-clause-same g c =
     }) last.same
 
 pub returns-in_err-check_events-clause-same : goal.returns-in_err-check_events-clause-same
-returns-in_err-check_events-clause-same g c = IfOk-from_err c.from_residual.result _ c.from_residual.ensures.0
+returns-in_err-check_events-clause-same g c = rw (err_from_is_err_and c.from_residual.result c.from_residual.ensures.1).1 tt
 
 pub returns-in_err-check_events-clause-usable : goal.returns-in_err-check_events-clause-usable
-returns-in_err-check_events-clause-usable g c = IfOk-from_err c.from_residual.result _ c.from_residual.ensures.0
+returns-in_err-check_events-clause-usable g c = rw (err_from_is_err_and c.from_residual.result c.from_residual.ensures.1).1 tt
 
 pub returns-in_err-check_derived-clause-same : goal.returns-in_err-check_derived-clause-same
-returns-in_err-check_derived-clause-same g c = IfOk-from_err c.from_residual-in_err-check_derived.result _ c.from_residual-in_err-check_derived.ensures.0
+returns-in_err-check_derived-clause-same g c = rw (err_from_is_err_and c.from_residual-in_err-check_derived.result c.from_residual-in_err-check_derived.ensures.1).1 tt
 
 pub returns-in_err-check_derived-clause-usable : goal.returns-in_err-check_derived-clause-usable
-returns-in_err-check_derived-clause-usable g c = IfOk-from_err c.from_residual-in_err-check_derived.result _ c.from_residual-in_err-check_derived.ensures.0
+returns-in_err-check_derived-clause-usable g c = rw (err_from_is_err_and c.from_residual-in_err-check_derived.result c.from_residual-in_err-check_derived.ensures.1).1 tt
 
 pub returns-in_err-check_events-clause-reads : goal.returns-in_err-check_events-clause-reads
 returns-in_err-check_events-clause-reads g c = c.check_events.ensures.reads
