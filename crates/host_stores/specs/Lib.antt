@@ -1,3 +1,4 @@
 pub mod Causes
+pub mod Files
 pub mod NewStores
 pub mod Stores

@@ -1,33 +1,23 @@
-// Files of one type, however a store is opened. What is called at the type of the files of a host takes a third of a minute to
-// prove at each call: so such calls stand here alone, and all else is written over any `FileOpener`.
-ghost use Rattle.std.specs.Prelude.{◌≡◌, [], true, false, IfOk, IfSome, IsTrue};
-ghost use Rattle.sqlite_std_file.specs.File.{file_is_usable, IsFresh};
+// Files of one type, however a store is opened.
+ghost use Rattle.std.specs.Prelude.{◌≡◌, [], IfOk, IfSome};
 ghost use Rattle.sqlite_disk.specs.Memory.{memory_bytes};
 ghost use Rattle.sqlite_wal.specs.Reads.{AreClean};
 ghost use Rattle.sqlite_wal.specs.Files.{image_at};
 ghost use Rattle.sqlite_wal.specs.Recovery.{Image};
 ghost use Rattle.file_disks.specs.Either.{are_one, are_other};
-ghost use Rattle.file_disks.specs.Untouched.{IsUntouched};
 ghost use Rattle.store_paths.specs.Shown.{ShowImage};
+ghost use Rattle.host_stores.specs.Files.{AreUntouched};
 
-use crate::causes::at_path;
-use crate::openings::Openings;
-use crate::refusals::is_to_be_migrated;
-use crate::stores::{look_at, make_missing_at};
+use crate::hosts::Host;
 use file_disks::{
-    EitherDisk, FileOf, ReadOnly, Standing, Unopened, as_one, as_other, open_to_look, open_to_read,
-    other_of, read_only,
+    EitherDisk, ReadOnly, Standing, Unopened, as_one, as_other, other_of, read_only,
 };
 use prof_store::OpenError;
 use sqlite_disk::{Disk, Files as DiskFiles, Memory, Start};
-use sqlite_pager::Options;
-use sqlite_std_file::{FileFrom, OpenError as PathError};
 use std::alloc::Global;
 use std::marker::PhantomData;
 use std::rt::HostRuntime;
-use store_paths::{
-    FileOpener, NotOpened, Patience, StoreMaker, TRIES, Unread, has_stood, is_no_file,
-};
+use store_paths::{FileOpener, NotOpened, Patience, Unread, has_stood};
 
 /// The longest log that is read whole into memory, in bytes: 64 MiB. A longer one is recovered in its file.
 const LONGEST_LOG: usize = 0x400_0000;
@@ -64,8 +54,7 @@ fn read_as_second<D: Disk + Drop, S: Start, A: Disk, C: Disk>(
     alloc: Global,
     files: DiskFiles<D>,
 ) -> Option<DiskFiles<EitherDisk<EitherDisk<A, ReadOnly<D, S>>, C>>>
-    requires log { IsUntouched D.Disk S.Start.log files.log }
-    requires db { IsUntouched D.Disk S.Start.db files.db }
+    requires { AreUntouched D.Disk S.Start files }
     ensures { IfSome result (ShowImage ⟦<EitherDisk<EitherDisk<A, ReadOnly<D, S>>, C> as Disk>⟧ (image_at S.Start)) }
 {
     let files = read_only(alloc, files, LONGEST_LOG)?;
@@ -77,36 +66,11 @@ fn read_as_third<D: Disk + Drop, S: Start, A: Disk, C: Disk>(
     alloc: Global,
     files: DiskFiles<D>,
 ) -> Option<DiskFiles<EitherDisk<A, EitherDisk<ReadOnly<D, S>, C>>>>
-    requires log { IsUntouched D.Disk S.Start.log files.log }
-    requires db { IsUntouched D.Disk S.Start.db files.db }
+    requires { AreUntouched D.Disk S.Start files }
     ensures { IfSome result (ShowImage ⟦<EitherDisk<A, EitherDisk<ReadOnly<D, S>, C>> as Disk>⟧ (image_at S.Start)) }
 {
     let files = read_only(alloc, files, LONGEST_LOG)?;
     Some(as_other(as_one(files)))
-}
-
-/// The files of the database at a path, which are made if they are missing, and locked: another who has them open is
-/// waited for. `S` says what they hold then.
-fn files_at<S: Openings>(
-    rt: &HostRuntime,
-    path: &str,
-    patience: Patience,
-) -> Result<DiskFiles<FileFrom<S>>, NotOpened>
-    ensures log { IfOk result (λ files. IsTrue (file_is_usable S.Start files.log)) }
-    ensures db { IfOk result (λ files. IsTrue (file_is_usable S.Start files.db)) }
-    ensures fresh { IfOk result (λ files. IsFresh true files.log × IsFresh false files.db) }
-{
-    if is_no_file(path) {
-        return Err(OpenError::Store.into());
-    }
-    'tries: for _ in 0..TRIES {
-        match sqlite_std_file::open(rt, path, S::next()) {
-            Ok(files) => return Ok(files),
-            Err(PathError::Busy) if patience.is_left(rt) => {}
-            Err(error) => return Err(at_path(error)),
-        }
-    }
-    Err(OpenError::Store.into())
 }
 
 /// Why files are not read beside others. No guarantee: of the files at a path the checker knows nothing.
@@ -134,67 +98,67 @@ fn held_beside<D: Disk>(
     }
 }
 
-/// A file of a host, of any of three kinds, or one in memory. `S` says what that of a host holds.
-pub type HostFile<S> = EitherDisk<
-    EitherDisk<FileFrom<S>, ReadOnly<FileFrom<S>, S>>,
-    EitherDisk<ReadOnly<FileOf<S>, S>, Memory>,
+/// A file of a host, of any of three kinds, or one in memory.
+pub type HostFile<H> = EitherDisk<
+    EitherDisk<<H as Host>::Locked, ReadOnly<<H as Host>::Locked, <H as Host>::Start>>,
+    EitherDisk<ReadOnly<<H as Host>::Shared, <H as Host>::Start>, Memory>,
 >;
 
 /// Opens files of a host.
-pub struct HostOpener<S: Openings> {
-    _openings: PhantomData<S>,
+pub struct HostOpener<H: Host> {
+    _host: PhantomData<H>,
 }
 
-impl<S: Openings> FileOpener for HostOpener<S> {
+impl<H: Host> FileOpener for HostOpener<H> {
     ghost use Rattle.sqlite_wal.specs.Files.{image_at};
 
-    type File = HostFile<S>;
+    type File = HostFile<H>;
 
-    ghost image = { image_at S.Start };
+    ghost image = { image_at H.Start.Start };
 
     fn to_change(
         rt: &HostRuntime,
         path: &str,
         patience: Patience,
-    ) -> Result<DiskFiles<HostFile<S>>, NotOpened>
-        ensures { IfOk result (ShowImage ⟦<HostFile<S> as Disk>⟧ (image_at S.Start)) }
+    ) -> Result<DiskFiles<HostFile<H>>, NotOpened>
+        ensures { IfOk result (ShowImage ⟦<HostFile<H> as Disk>⟧ (image_at H.Start.Start)) }
     {
-        Ok(as_first(files_at::<S>(rt, path, patience)?))
+        Ok(as_first(H::lock(rt, path, patience)?))
     }
 
     fn alone(
         rt: &HostRuntime,
         path: &str,
         patience: Patience,
-    ) -> Result<DiskFiles<HostFile<S>>, NotOpened>
-        ensures { IfOk result (ShowImage ⟦<HostFile<S> as Disk>⟧ (image_at S.Start)) }
+    ) -> Result<DiskFiles<HostFile<H>>, NotOpened>
+        ensures { IfOk result (ShowImage ⟦<HostFile<H> as Disk>⟧ (image_at H.Start.Start)) }
     {
-        match read_as_second(rt.alloc(), files_at::<S>(rt, path, patience)?) {
+        match read_as_second(rt.alloc(), H::lock(rt, path, patience)?) {
             Some(files) => Ok(files),
             None => Err(OpenError::Store.into()),
         }
     }
 
-    fn beside(rt: &HostRuntime, path: &str) -> Result<(DiskFiles<HostFile<S>>, Standing), Unread>
-        ensures { IfOk result (λ opened. ShowImage ⟦<HostFile<S> as Disk>⟧ (image_at S.Start) opened.0) }
+    fn beside(rt: &HostRuntime, path: &str) -> Result<(DiskFiles<HostFile<H>>, Standing), Unread>
+        ensures { IfOk result (λ opened. ShowImage ⟦<HostFile<H> as Disk>⟧ (image_at H.Start.Start) opened.0) }
     {
-        match open_to_read(rt, path, S::next()) {
+        match H::share(rt, path) {
             Ok((files, standing)) => { held_beside(rt, read_as_third(rt.alloc(), files), standing) }
             Err(why) => Err(unopened(why)),
         }
     }
 
-    fn to_look(rt: &HostRuntime, path: &str) -> Option<DiskFiles<HostFile<S>>>
-        ensures { IfSome result (ShowImage ⟦<HostFile<S> as Disk>⟧ (image_at S.Start)) }
+    fn to_look(rt: &HostRuntime, path: &str) -> Option<DiskFiles<HostFile<H>>>
+        ensures { IfSome result (ShowImage ⟦<HostFile<H> as Disk>⟧ (image_at H.Start.Start)) }
     {
-        match open_to_look(rt, path, S::next()) {
+        match H::share_to_look(rt, path) {
             Ok(files) => read_as_third(rt.alloc(), files),
             Err(_) => None,
         }
     }
 
-    fn in_memory(alloc: Global) -> DiskFiles<HostFile<S>>
-        ensures { ShowImage ⟦<HostFile<S> as Disk>⟧ (record { log = []; db = [] }) result }
+    fn in_memory(alloc: Global) -> DiskFiles<HostFile<H>>
+        ensures { ShowImage ⟦<HostFile<H> as Disk>⟧ (record { log = []; db = [] }) result }
     {
         as_fourth(DiskFiles {
             log: Memory::new(alloc),
@@ -202,34 +166,13 @@ impl<S: Openings> FileOpener for HostOpener<S> {
         })
     }
 
-    fn into_memory(files: DiskFiles<HostFile<S>>) -> Option<Memory>
-        ensures clean { IfSome result (λ _. AreClean ⟦<HostFile<S> as Disk>⟧ files.log files.db) }
-        ensures bytes { IfSome result (λ file. memory_bytes file ≡ ⟦<HostFile<S> as Disk>⟧.seen files.db) }
+    fn into_memory(files: DiskFiles<HostFile<H>>) -> Option<Memory>
+        ensures clean { IfSome result (λ _. AreClean ⟦<HostFile<H> as Disk>⟧ files.log files.db) }
+        ensures bytes { IfSome result (λ file. memory_bytes file ≡ ⟦<HostFile<H> as Disk>⟧.seen files.db) }
     {
         match fourth_of(files) {
             Some(files) => Some(files.db),
             None => None,
         }
-    }
-}
-
-impl<S: Openings> StoreMaker for HostOpener<S> {
-    fn make_missing(rt: &HostRuntime, path: &str, patience: Patience) -> Result<bool, NotOpened> {
-        make_missing_at::<HostOpener<S>>(rt, path, patience)
-    }
-
-    fn look(rt: &HostRuntime, path: &str, patience: Patience) -> Result<(), NotOpened> {
-        look_at::<HostOpener<S>>(rt, path, patience)
-    }
-
-    fn is_to_be_migrated(
-        alloc: Global,
-        files: DiskFiles<HostFile<S>>,
-        options: Options,
-    ) -> Result<bool, NotOpened>
-        requires log { IsTrue (⟦<HostFile<S> as Disk>⟧.is_usable files.log) }
-        requires db { IsTrue (⟦<HostFile<S> as Disk>⟧.is_usable files.db) }
-    {
-        is_to_be_migrated::<HostOpener<S>>(alloc, files, options)
     }
 }

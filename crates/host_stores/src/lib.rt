@@ -14,8 +14,14 @@ mod openings;
 mod refusals;
 // Makes, finds, migrates or refuses the store in a database, and that at a path.
 mod stores;
+// The files of a host.
+mod hosts;
 // Files of one type, however a store is opened.
 mod files;
+// Makes the store at a path by SQL, over any files.
+mod maker;
 
 pub use files::{HostFile, HostOpener};
+pub use hosts::{Host, RunningHost};
+pub use maker::SqlMaker;
 pub use openings::Openings;

@@ -31,17 +31,48 @@ fn database_in<D: Disk + Drop>(
     }
 }
 
-// What is done to a database is written over any pages, and what a store tells is called in one place for each kind of it: a
-// function that is called at the type of a store takes half a minute to prove at each call.
+/// What is done over a database. It is written over any: what is called at the type of one in files takes half a minute to prove
+/// at each call, so that is done in one place.
+trait DatabaseJob {
+    /// What it finds.
+    type Found: Drop;
 
-/// Makes a store in an empty database.
-fn made<S: Alter + Drop>(
+    /// Does it, and hands the database back.
+    fn over<S: Alter + Drop>(
+        self,
+        alloc: Global,
+        conn: Connection<S>,
+    ) -> (Self::Found, Connection<S>);
+}
+
+/// Does a job over the database in files: what it finds, and the files behind it.
+fn done_in<D: Disk + Drop, J: DatabaseJob + Drop>(
     alloc: Global,
-    conn: Connection<S>,
-) -> Result<Connection<S>, &'static str> {
-    match Store::create(alloc, conn) {
-        Ok(store) => Ok(store.into_connection()),
-        Err(_) => Err("no store is made"),
+    files: Files<D>,
+    job: J,
+) -> Result<(J::Found, Files<D>), &'static str> {
+    let (found, conn) = job.over(alloc, database_in(alloc, files)?);
+    match conn.close_files() {
+        Ok(files) => Ok((found, files)),
+        Err((_, store)) => {
+            drop(store.close());
+            Err("the log is not copied")
+        }
+    }
+}
+
+/// A store is made in an empty database: whether it is.
+#[derive(Drop)]
+struct Making {}
+
+impl DatabaseJob for Making {
+    type Found = bool;
+
+    fn over<S: Alter + Drop>(self, alloc: Global, conn: Connection<S>) -> (bool, Connection<S>) {
+        match Store::create(alloc, conn) {
+            Ok(store) => (true, store.into_connection()),
+            Err((_, conn)) => (false, conn),
+        }
     }
 }
 
@@ -50,13 +81,11 @@ pub(crate) fn made_in<D: Disk + Drop>(
     alloc: Global,
     files: Files<D>,
 ) -> Result<Files<D>, &'static str> {
-    let conn = made(alloc, database_in(alloc, files)?)?;
-    match conn.close_files() {
-        Ok(files) => Ok(files),
-        Err((_, store)) => {
-            drop(store.close());
-            Err("the log is not copied")
-        }
+    let (is_made, files) = done_in(alloc, files, Making {})?;
+    if is_made {
+        Ok(files)
+    } else {
+        Err("no store is made")
     }
 }
 
@@ -97,18 +126,27 @@ pub(crate) fn told_by_pages<D: Disk + Drop>(
     }
 }
 
-/// What the store in a database tells.
-fn told_by_database<S: Alter + Drop>(
-    alloc: Global,
-    conn: Connection<S>,
-) -> Result<Vec<u8>, &'static str> {
-    let mut store = match Store::open(alloc, conn) {
-        Ok(store) => SqlRuns { store },
-        Err(_) => return Err("no store by SQL"),
-    };
-    match told_by(&mut store, alloc) {
-        Ok(told) => Ok(told),
-        Err(_) => Err("by SQL the store is not read"),
+/// The store in a database tells what it holds.
+#[derive(Drop)]
+struct Telling {}
+
+impl DatabaseJob for Telling {
+    type Found = Result<Vec<u8>, &'static str>;
+
+    fn over<S: Alter + Drop>(
+        self,
+        alloc: Global,
+        conn: Connection<S>,
+    ) -> (Result<Vec<u8>, &'static str>, Connection<S>) {
+        let mut store = match Store::open(alloc, conn) {
+            Ok(store) => SqlRuns { store },
+            Err((_, conn)) => return (Err("no store by SQL"), conn),
+        };
+        let told = match told_by(&mut store, alloc) {
+            Ok(told) => Ok(told),
+            Err(_) => Err("by SQL the store is not read"),
+        };
+        (told, store.into_connection())
     }
 }
 
@@ -117,5 +155,7 @@ pub(crate) fn told_by_sql<D: Disk + Drop>(
     alloc: Global,
     files: Files<D>,
 ) -> Result<Vec<u8>, &'static str> {
-    told_by_database(alloc, database_in(alloc, files)?)
+    let (told, files) = done_in(alloc, files, Telling {})?;
+    drop(files);
+    told
 }

@@ -4,13 +4,15 @@
 ghost use Rattle.std.specs.Prelude.{true, [], None};
 
 use anyhow::Result;
-use host_stores::{HostOpener, Openings};
+use host_stores::{HostOpener, Openings, RunningHost, SqlMaker};
+use page_runs::PageRuns;
 use program_stores::Outputs;
-use sqlite_disk::Start;
+use sqlite_disk::{Disk, Start};
 use std::io;
 use std::io::Printer;
 use std::process::ExitCode;
 use store_openers::PathOpener;
+use store_paths::{FileOpener, Opener, StoreMaker};
 
 /// The files of the host. Of what they hold the checker knows nothing: what is proved is so for all that they may hold. As
 /// the kit's `Unknown`, it supposes that a torn write leaves each byte old or new.
@@ -51,9 +53,27 @@ impl<'a> Outputs for StandardOutput<'a> {
     }
 }
 
-/// Does what the words that the program was started with say, over the files of a host, whatever these hold.
+// A store over files of any type is faster to prove than one over those of a host: so it is three functions.
+
+/// Does what the words that the program was started with say, over a store that `P` opens in its pages.
+fn run_in_pages<D: Disk + Drop, P: Opener<PageRuns<D>>, O: Outputs>(
+    rt: &HostRuntime,
+    outputs: &O,
+) -> Result<ExitCode> {
+    program_stores::run::<PageRuns<D>, P, O>(rt, outputs)
+}
+
+/// The same over files that `F` opens, whatever these hold.
+fn run_over<F: FileOpener, M: StoreMaker<F>, O: Outputs>(
+    rt: &HostRuntime,
+    outputs: &O,
+) -> Result<ExitCode> {
+    run_in_pages::<F::File, PathOpener<F, M>, O>(rt, outputs)
+}
+
+/// The same over those of a host.
 fn run<S: Openings, O: Outputs>(rt: &HostRuntime, outputs: &O) -> Result<ExitCode> {
-    program_stores::run::<PathOpener<HostOpener<S>>, O>(rt, outputs)
+    run_over::<HostOpener<RunningHost<S>>, SqlMaker, O>(rt, outputs)
 }
 
 fn main(rt: HostRuntime) -> Result<ExitCode> {

@@ -1,22 +1,19 @@
 // Does a job over the store at a path beside others, who may write it meanwhile.
 ghost use Rattle.std.specs.Prelude.{IfOk};
-ghost use Rattle.sqlite_wal.specs.Recovery.{Image};
-ghost use Rattle.store_openers.specs.Opened.{IsStoreOf};
+ghost use Rattle.store_paths.specs.Opened.{IsStoreOf};
 ghost use Rattle.program_stores.specs.Theorem.{WasDone};
 
-use crate::jobs::{Done, Job, Outputs, done_over};
+use crate::jobs::{Done, Job, Outputs};
 use crate::telling::tell_remarks;
 use file_disks::{IfStands, Standing};
-use page_runs::PageRuns;
 use requests::Command;
+use run_stores::RunStore;
 use sessions::WordsCommand;
-use sqlite_disk::Disk;
 use std::fs;
 use std::fs::File;
 use std::io::Read;
 use std::rt::HostRuntime;
-use store_openers::Opener;
-use store_paths::{Patience, TRIES, Unread, is_no_file};
+use store_paths::{Opener, Patience, TRIES, Unread, is_no_file};
 
 /// So often it is tried, even where that takes longer than patience lasts.
 const LEAST_TRIES: u32 = 3;
@@ -35,22 +32,19 @@ fn may_be_repeated(rt: &HostRuntime, command: &WordsCommand<'_>) -> bool {
 
 /// Does a job that only reads over a store that was read beside others, and prints what it comes to if what was read stood
 /// still: else nothing was printed.
-fn done_beside<'a, D: Disk + Drop, O: Outputs>(
+fn done_beside<'a, S: RunStore + Drop, P: Opener<S>, O: Outputs>(
     rt: &'a HostRuntime,
     outputs: &O,
-    store: PageRuns<D>,
+    store: S,
     standing: Standing,
     job: Job<'_, 'a>,
-) -> Result<Done<D, O::Out>, Unread>
-    ensures { (image : Image) → IsStoreOf image store → IfOk result (WasDone ⟦<File as Read>⟧.remaining O.Out.contents image job.entry O.Outputs.fresh) }
+) -> Result<Done<S, O::Out>, Unread>
+    ensures { IsStoreOf S.StoreState P.Opener.held store
+        → IfOk result (WasDone ⟦<File as Read>⟧.remaining O.Out.contents S.StoreState P.Opener.held job.entry O.Outputs.fresh) }
 {
     let mut remarks = Vec::new(rt.alloc());
     let out = IfStands::new(outputs.next(), rt, Some(standing));
-    let Done {
-        came_to,
-        mut out,
-        store,
-    } = done_over(rt, out, store, job, &mut remarks);
+    let (came_to, mut out, store) = job.over(rt, out, store, &mut remarks);
     if out.has_stood() {
         tell_remarks(rt, &remarks);
         Ok(Done {
@@ -66,17 +60,17 @@ fn done_beside<'a, D: Disk + Drop, O: Outputs>(
 
 /// Does a job that only reads over the store at a path, once. A file that is read without a log is locked for that.
 /// `Standing` says when what was read is what one commit left.
-fn done_once<'a, P: Opener, O: Outputs>(
+fn done_once<'a, S: RunStore + Drop, P: Opener<S>, O: Outputs>(
     rt: &'a HostRuntime,
     outputs: &O,
     path: &str,
     job: Job<'_, 'a>,
-) -> Result<Done<P::File, O::Out>, Unread>
-    ensures { IfOk result (WasDone ⟦<File as Read>⟧.remaining O.Out.contents P.Opener.image job.entry O.Outputs.fresh) }
+) -> Result<Done<S, O::Out>, Unread>
+    ensures { IfOk result (WasDone ⟦<File as Read>⟧.remaining O.Out.contents S.StoreState P.Opener.held job.entry O.Outputs.fresh) }
 {
     let (store, standing) = P::beside(rt, path)?;
     if standing.is_read_with_log() {
-        done_beside(rt, outputs, store, standing, job)
+        done_beside::<S, P, O>(rt, outputs, store, standing, job)
     } else {
         drop(store);
         Err(Unread::Unfit)
@@ -93,20 +87,20 @@ fn may_be_beside(rt: &HostRuntime, job: Job<'_, '_>) -> bool {
 
 /// Does a job over the store at a path beside others, if it only reads: no lock is taken, and nothing is made or changed.
 /// Where others write meanwhile, it begins anew, as long as patience lasts. `P` says what the files held when it was done.
-pub(crate) fn work_beside<'a, P: Opener, O: Outputs>(
+pub(crate) fn work_beside<'a, S: RunStore + Drop, P: Opener<S>, O: Outputs>(
     rt: &'a HostRuntime,
     outputs: &O,
     path: &str,
     job: Job<'_, 'a>,
     patience: Patience,
-) -> Result<Done<P::File, O::Out>, Unread>
-    ensures { IfOk result (WasDone ⟦<File as Read>⟧.remaining O.Out.contents P.Opener.image job.entry O.Outputs.fresh) }
+) -> Result<Done<S, O::Out>, Unread>
+    ensures { IfOk result (WasDone ⟦<File as Read>⟧.remaining O.Out.contents S.StoreState P.Opener.held job.entry O.Outputs.fresh) }
 {
     if is_no_file(path) || !may_be_beside(rt, job) {
         return Err(Unread::Unfit);
     }
     'tries: for turn in 0..TRIES {
-        match done_once::<P, O>(rt, outputs, path, job) {
+        match done_once::<S, P, O>(rt, outputs, path, job) {
             Err(Unread::Moved) if patience.is_left(rt) || turn < LEAST_TRIES => {}
             // While another makes the files, or opens them, they may be so for a moment.
             Err(Unread::Unfit) if turn == 0 => {}

@@ -1,20 +1,15 @@
 // What is done over the store that is opened for it.
 ghost use Rattle.std.specs.Prelude.{◌≡◌, ◌≤◌, ℕ, List, Option};
 ghost use Rattle.std.specs.List.{list_all};
-ghost use Rattle.sqlite_wal.specs.Recovery.{Image};
 ghost use Rattle.run_stores.specs.Calls.{IsFaithful};
 ghost use Rattle.program_stores.specs.Jobs as specs;
 ghost use Rattle.program_stores.specs.Jobs.{Tells};
-ghost use Rattle.store_openers.specs.Opened.{IsStoreOf};
-ghost use Rattle.program_stores.specs.Theorem.{WasDone};
 ghost use Rattle.requests.specs.Plain.{only_reads};
 ghost use Rattle.warehouse.specs.Taken.{CameTo};
 
-use page_runs::PageRuns;
 use prof_http::{Service, serve_over};
 use run_stores::RunStore;
 use sessions::{Remark, WordsCommand, work_over};
-use sqlite_disk::Disk;
 use std::fs::File;
 use std::io;
 use std::io::{Read, Write};
@@ -49,7 +44,7 @@ pub(crate) enum Job<'c, 'a> {
 impl<'a> Job<'_, 'a> {
     /// Does it over any store, and prints what is to be printed. What was found of the files that commands read is kept
     /// beside.
-    fn over<W: Write + Drop, T: RunStore>(
+    pub(crate) fn over<W: Write + Drop, T: RunStore>(
         self,
         rt: &'a HostRuntime,
         out: W,
@@ -92,27 +87,9 @@ impl<'a> Job<'_, 'a> {
 
 /// What a job came to.
 #[derive(Drop)]
-pub(crate) struct Done<D: Disk, W: Drop> {
+pub(crate) struct Done<S: Drop, W: Drop> {
     /// Its status, or why what it prints was not printed whole.
     pub(crate) came_to: io::Result<u8>,
     pub(crate) out: W,
-    pub(crate) store: PageRuns<D>,
-}
-
-/// Does a job over the store in files, which held this image.
-pub(crate) fn done_over<'a, D: Disk + Drop, W: Write + Drop>(
-    rt: &'a HostRuntime,
-    out: W,
-    store: PageRuns<D>,
-    job: Job<'_, 'a>,
-    remarks: &mut Vec<Remark<'a>>,
-) -> Done<D, W>
-    ensures { (image : Image) → IsStoreOf image store → WasDone ⟦<File as Read>⟧.remaining W.contents image job.entry (W.contents out) result }
-{
-    let (came_to, out, store) = job.over(rt, out, store, remarks);
-    Done {
-        came_to,
-        out,
-        store,
-    }
+    pub(crate) store: S,
 }

@@ -1,5 +1,7 @@
 // What the words of a command line say is done, over the files that they name.
+ghost use Rattle.std.specs.Prelude.{◌≡◌};
 ghost use Rattle.sessions.specs.Commands.{HasCommands};
+ghost use Rattle.program_stores.specs.declared.running.Asked.TheVariants as asked;
 
 use crate::jobs::{Done, Job, Outputs};
 use crate::telling::tell_person;
@@ -10,18 +12,16 @@ use file_reading::{
     Beginning, Finding, SeenFile, TotalText, fault_finding, finding_line, total_read,
     unread_finding,
 };
-use page_runs::PageRuns;
 use prof_http::Service;
 use profile_records::Kind;
+use run_stores::RunStore;
 use sessions::{commands_of, print_total};
-use sqlite_disk::Disk;
 use std::alloc::AllocError;
 use std::io::ErrorKind;
 use std::process::ExitCode;
 use std::rt::HostRuntime;
 use std::{env, io};
-use store_openers::Opener;
-use store_paths::{Cause, NotOpened, cause_line, error_line};
+use store_paths::{Cause, NotOpened, Opener, cause_line, error_line};
 
 /// Prints the line of a refusal. No guarantee: of what is printed the checker knows nothing.
 fn print_refused<R: Print>(rt: &R, reason: &str) -> io::Result<ExitCode> {
@@ -29,22 +29,16 @@ fn print_refused<R: Print>(rt: &R, reason: &str) -> io::Result<ExitCode> {
     Ok(ExitCode::FAILURE)
 }
 
-/// Closes a store. Whether a write to its files failed since the disk was full.
-fn has_met_full_disk<D: Disk + Drop>(store: PageRuns<D>) -> bool {
-    let files = store.into_file().close();
-    files.log.tally().refused > 0 || files.db.tally().refused > 0
-}
-
 /// The status of what a job came to over the store at a path, or of one that was not opened: why is printed. No guarantee:
 /// `work_at` says what a job comes to.
-fn status_of<D: Disk + Drop, W: Drop>(
+fn status_of<S: RunStore + Drop, P: Opener<S>, W: Drop>(
     rt: &HostRuntime,
     db: &str,
-    came_to: Result<Done<D, W>, NotOpened>,
+    came_to: Result<Done<S, W>, NotOpened>,
 ) -> io::Result<ExitCode> {
     match came_to {
         Ok(done) => {
-            if has_met_full_disk(done.store) {
+            if P::has_met_full_disk(done.store) {
                 tell_person(rt, db, cause_line(Cause::DiskFull));
             }
             Ok(ExitCode::from(done.came_to?))
@@ -87,17 +81,18 @@ fn run_total(rt: &HostRuntime, path: &str) -> io::Result<ExitCode> {
 }
 
 /// Does a job over the store at a path, and prints why where none is opened. No guarantee: as `status_of`.
-fn run_job<'a, P: Opener, O: Outputs>(
+fn run_job<'a, S: RunStore + Drop, P: Opener<S>, O: Outputs>(
     rt: &'a HostRuntime,
     outputs: &O,
     db: &str,
     job: Job<'_, 'a>,
 ) -> io::Result<ExitCode> {
-    status_of(rt, db, work_at::<P, O>(rt, outputs, db, job))
+    let came_to = work_at::<S, P, O>(rt, outputs, db, job);
+    status_of::<S, P, O::Out>(rt, db, came_to)
 }
 
 /// Runs the commands of a plan that has such. No guarantee: as `run_plan`.
-fn run_commands<'a, P: Opener, O: Outputs>(
+fn run_commands<'a, S: RunStore + Drop, P: Opener<S>, O: Outputs>(
     rt: &'a HostRuntime,
     outputs: &O,
     plan: &Plan<'a>,
@@ -105,20 +100,23 @@ fn run_commands<'a, P: Opener, O: Outputs>(
     requires { HasCommands plan.now }
 {
     match commands_of(rt.alloc(), plan) {
-        Ok((db, commands)) => { run_job::<P, O>(rt, outputs, db, Job::Run(commands.as_slice())) }
+        Ok((db, commands)) => { run_job::<S, P, O>(rt, outputs, db, Job::Run(commands.as_slice())) }
         Err(AllocError) => print_refused(rt, "out of memory"),
     }
 }
 
-/// Does what a plan says, and prints what it came to. No guarantee: which files stand at the paths of a plan
-/// the checker does not know; `commands_of`, `total_read` and `work_over` say what is made of them.
-fn run_plan<'a, P: Opener, O: Outputs>(
-    rt: &'a HostRuntime,
-    outputs: &O,
-    plan: &Plan<'a>,
-) -> io::Result<ExitCode> {
+/// What a plan asks for. (A last arm of a `match` stands for each other variant, and costs a proof for each: so it is cut off.)
+enum Asked<'p> {
+    Total(&'p str),
+    Serve(&'p str, Service),
+    Commands,
+}
+
+fn asked_of<'p>(plan: &'p Plan<'_>) -> Asked<'p>
+    ensures { (result ≡ asked.Commands) → HasCommands plan.now }
+{
     match plan {
-        Plan::Total { path } => run_total(rt, path),
+        Plan::Total { path } => Asked::Total(path),
         Plan::Serve {
             db,
             port,
@@ -132,9 +130,23 @@ fn run_plan<'a, P: Opener, O: Outputs>(
                 most: *most_bytes as usize,
                 log: *log,
             };
-            run_job::<P, O>(rt, outputs, db, Job::Serve(service))
+            Asked::Serve(db, service)
         }
-        commands => run_commands::<P, O>(rt, outputs, commands),
+        _ => Asked::Commands,
+    }
+}
+
+/// Does what a plan says, and prints what it came to. No guarantee: which files stand at the paths of a plan
+/// the checker does not know; `commands_of`, `total_read` and `work_over` say what is made of them.
+fn run_plan<'a, S: RunStore + Drop, P: Opener<S>, O: Outputs>(
+    rt: &'a HostRuntime,
+    outputs: &O,
+    plan: &Plan<'a>,
+) -> io::Result<ExitCode> {
+    match asked_of(plan) {
+        Asked::Total(path) => run_total(rt, path),
+        Asked::Serve(db, service) => run_job::<S, P, O>(rt, outputs, db, Job::Serve(service)),
+        Asked::Commands => run_commands::<S, P, O>(rt, outputs, plan),
     }
 }
 
@@ -156,10 +168,13 @@ fn print_unplanned(rt: &HostRuntime, end: PlanEnd) -> io::Result<ExitCode> {
 }
 
 /// Does what the words that the program was started with say. No guarantee: as `run_plan`.
-pub fn run<P: Opener, O: Outputs>(rt: &HostRuntime, outputs: &O) -> Result<ExitCode> {
+pub fn run<S: RunStore + Drop, P: Opener<S>, O: Outputs>(
+    rt: &HostRuntime,
+    outputs: &O,
+) -> Result<ExitCode> {
     let words: Vec<String> = env::args(rt)?.collect(rt.alloc())?;
     let status = match plan(rt.alloc(), words.as_slice()) {
-        Ok(plan) => run_plan::<P, O>(rt, outputs, &plan)?,
+        Ok(plan) => run_plan::<S, P, O>(rt, outputs, &plan)?,
         Err(end) => print_unplanned(rt, end)?,
     };
     Ok(status)

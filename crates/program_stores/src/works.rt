@@ -1,31 +1,28 @@
 // A job is done over the store at a path, which is made, migrated or refused first.
 ghost use Rattle.std.specs.Prelude.{IfOk};
-ghost use Rattle.sqlite_wal.specs.Recovery.{Image};
-ghost use Rattle.store_openers.specs.Opened.{IsStoreOf};
+ghost use Rattle.store_paths.specs.Opened.{IsStoreOf};
 ghost use Rattle.program_stores.specs.Theorem.{WasDone};
 
 use crate::beside::work_beside;
-use crate::jobs::{Done, Job, Outputs, done_over};
+use crate::jobs::{Done, Job, Outputs};
 use crate::telling::{tell_person, tell_remarks};
 use file_disks::IfStands;
-use page_runs::PageRuns;
-use prof_store::OpenError;
-use sqlite_disk::Disk;
+use run_stores::RunStore;
 use std::fs::File;
 use std::io::Read;
 use std::rt::HostRuntime;
-use store_openers::{Opener, look_beside};
-use store_paths::{NotOpened, Patience, Unread};
+use store_paths::{NotOpened, Opener, Patience, Unread};
+use store_schema::OpenError;
 
 /// The store at a path, to be changed with no other beside. What is not plainly ours is looked at in its database first,
 /// which migrates a store of version 1 and says what is wrong with others; `P` says what the files hold then.
-fn store_to_change_at<P: Opener>(
+fn store_to_change_at<S: RunStore + Drop, P: Opener<S>>(
     rt: &HostRuntime,
     db: &str,
     patience: Patience,
     cells_to_keep: usize,
-) -> Result<PageRuns<P::File>, NotOpened>
-    ensures { IfOk result (IsStoreOf P.Opener.image) }
+) -> Result<S, NotOpened>
+    ensures { IfOk result (IsStoreOf S.StoreState P.Opener.held) }
 {
     match P::to_change(rt, db, patience, cells_to_keep) {
         Err(
@@ -42,24 +39,21 @@ fn store_to_change_at<P: Opener>(
 
 /// Does a job over a store that no other has open, and copies what was committed from the log into the file; where that
 /// fails, as over files that are only read, it stands in the log, and the next opening finds it there.
-fn done_alone<'a, D: Disk + Drop, O: Outputs>(
+fn done_alone<'a, S: RunStore + Drop, P: Opener<S>, O: Outputs>(
     rt: &'a HostRuntime,
     outputs: &O,
-    store: PageRuns<D>,
+    store: S,
     job: Job<'_, 'a>,
-) -> Done<D, O::Out>
-    ensures { (image : Image) → IsStoreOf image store → WasDone ⟦<File as Read>⟧.remaining O.Out.contents image job.entry O.Outputs.fresh result }
+) -> Done<S, O::Out>
+    ensures { IsStoreOf S.StoreState P.Opener.held store
+        → WasDone ⟦<File as Read>⟧.remaining O.Out.contents S.StoreState P.Opener.held job.entry O.Outputs.fresh result }
 {
     let mut remarks = Vec::new(rt.alloc());
     // (what prints is of one type, so that it is compiled once)
     let out = IfStands::new(outputs.next(), rt, None);
-    let Done {
-        came_to,
-        out,
-        mut store,
-    } = done_over(rt, out, store, job, &mut remarks);
+    let (came_to, out, mut store) = job.over(rt, out, store, &mut remarks);
     tell_remarks(rt, &remarks);
-    let _copied = store.checkpoint();
+    let _copied = P::checkpoint(&mut store);
     Done {
         came_to,
         out: out.into_out(),
@@ -69,49 +63,49 @@ fn done_alone<'a, D: Disk + Drop, O: Outputs>(
 
 /// Does a job over the store at a path, with no other beside: one that only reads over the files as they are, if their log
 /// is not long. A store that is to be refused is refused before anything of it is written, as far as `look_beside` sees it.
-fn work_alone<'a, P: Opener, O: Outputs>(
+fn work_alone<'a, S: RunStore + Drop, P: Opener<S>, O: Outputs>(
     rt: &'a HostRuntime,
     outputs: &O,
     db: &str,
     patience: Patience,
     job: Job<'_, 'a>,
-) -> Result<Done<P::File, O::Out>, NotOpened>
-    ensures { IfOk result (WasDone ⟦<File as Read>⟧.remaining O.Out.contents P.Opener.image job.entry O.Outputs.fresh) }
+) -> Result<Done<S, O::Out>, NotOpened>
+    ensures { IfOk result (WasDone ⟦<File as Read>⟧.remaining O.Out.contents S.StoreState P.Opener.held job.entry O.Outputs.fresh) }
 {
     if job.only_reads() {
         match P::alone(rt, db, patience) {
-            Ok(store) => return Ok(done_alone(rt, outputs, store, job)),
+            Ok(store) => return Ok(done_alone::<S, P, O>(rt, outputs, store, job)),
             Err(refused) if refused.end == OpenError::Memory => return Err(refused),
             Err(_) => {}
         }
     }
-    look_beside::<P>(rt, db)?;
-    let store = store_to_change_at::<P>(rt, db, patience, job.cells_to_keep())?;
-    Ok(done_alone(rt, outputs, store, job))
+    P::look_beside(rt, db)?;
+    let store = store_to_change_at::<S, P>(rt, db, patience, job.cells_to_keep())?;
+    Ok(done_alone::<S, P, O>(rt, outputs, store, job))
 }
 
 /// Does a job over the store at a path, which is made where there is none: one that only reads beside others, if it can be
 /// read so. `P` says what the files held when the store was opened over which it was done, whoever had made or changed them.
-pub(crate) fn work_at<'a, P: Opener, O: Outputs>(
+pub(crate) fn work_at<'a, S: RunStore + Drop, P: Opener<S>, O: Outputs>(
     rt: &'a HostRuntime,
     outputs: &O,
     db: &str,
     job: Job<'_, 'a>,
-) -> Result<Done<P::File, O::Out>, NotOpened>
-    ensures { IfOk result (WasDone ⟦<File as Read>⟧.remaining O.Out.contents P.Opener.image job.entry O.Outputs.fresh) }
+) -> Result<Done<S, O::Out>, NotOpened>
+    ensures { IfOk result (WasDone ⟦<File as Read>⟧.remaining O.Out.contents S.StoreState P.Opener.held job.entry O.Outputs.fresh) }
 {
     let patience = Patience::begin(rt);
     if P::make_missing(rt, db, patience)? {
         tell_person(rt, db, "it is new");
     }
-    match work_beside::<P, O>(rt, outputs, db, job, patience) {
+    match work_beside::<S, P, O>(rt, outputs, db, job, patience) {
         Ok(done) => Ok(done),
         Err(Unread::Moved) => Err(OpenError::Store.into()),
         Err(Unread::Refused(refused)) => Err(refused),
         Err(Unread::First) => {
-            let store = store_to_change_at::<P>(rt, db, patience, job.cells_to_keep())?;
-            Ok(done_alone(rt, outputs, store, job))
+            let store = store_to_change_at::<S, P>(rt, db, patience, job.cells_to_keep())?;
+            Ok(done_alone::<S, P, O>(rt, outputs, store, job))
         }
-        Err(Unread::Unfit) => work_alone::<P, O>(rt, outputs, db, patience, job),
+        Err(Unread::Unfit) => work_alone::<S, P, O>(rt, outputs, db, patience, job),
     }
 }

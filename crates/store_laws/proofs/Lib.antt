@@ -7,7 +7,6 @@ pub mod FilesAlike
 mod Handing
 pub mod HeldRuns
 mod Keeping
-mod Plain
 pub mod Reports
 pub mod RowSums
 pub mod Widths

@@ -2,17 +2,13 @@
 //! hold.
 #![tactic(auto)]
 
-// What opens the store at a path.
-mod opener;
 // Opens the store in files (specs/Opened.antt).
 mod opening;
-// Why a store that is not to be changed is refused.
+// The store at a path, read beside others, and why one that is not to be changed is refused.
 mod looking;
 // Why the store at a path is not read beside others, as its database says.
 mod refusing;
 // What opens the store at a path, over any files.
 mod path_openers;
 
-pub use looking::look_beside;
-pub use opener::Opener;
 pub use path_openers::PathOpener;

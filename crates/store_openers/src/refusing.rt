@@ -7,14 +7,14 @@ use prof_store::OpenError;
 use sqlite_disk::Files;
 use sqlite_pager::Options;
 use std::rt::HostRuntime;
-use store_paths::{StoreMaker, Unread, has_stood, options_for};
+use store_paths::{FileOpener, StoreMaker, Unread, has_stood, options_for};
 
 /// How many pages are kept in memory where a store is only read: each is read once, and more would only have to be made.
 pub(crate) const PAGES_TO_READ: usize = 100;
 
 /// Why a store is refused that its pages refuse, by what its database says over files that are only read, which others may
 /// write. No guarantee: of the files at a path the checker knows nothing, here and below.
-fn refused_in<F: StoreMaker>(
+fn refused_in<F: FileOpener, M: StoreMaker<F>>(
     rt: &HostRuntime,
     files: Files<F::File>,
     options: Options,
@@ -23,7 +23,7 @@ fn refused_in<F: StoreMaker>(
     requires log { IsTrue (F.File.Disk.is_usable files.log) }
     requires db { IsTrue (F.File.Disk.is_usable files.db) }
 {
-    let found = F::is_to_be_migrated(rt.alloc(), files, options);
+    let found = M::is_to_be_migrated(rt.alloc(), files, options);
     if !has_stood(rt, standing) {
         return Unread::Moved;
     }
@@ -35,18 +35,18 @@ fn refused_in<F: StoreMaker>(
 }
 
 /// The same of the store at a path.
-fn refused_at<F: StoreMaker>(rt: &HostRuntime, path: &str) -> Unread {
+fn refused_at<F: FileOpener, M: StoreMaker<F>>(rt: &HostRuntime, path: &str) -> Unread {
     let Ok(options) = options_for(rt, PAGES_TO_READ) else {
         return Unread::Unfit;
     };
     match F::beside(rt, path) {
-        Ok((files, standing)) => refused_in::<F>(rt, files, options, &standing),
+        Ok((files, standing)) => refused_in::<F, M>(rt, files, options, &standing),
         Err(why) => why,
     }
 }
 
 /// What comes of a store at a path whose pages are not read beside others.
-pub(crate) fn unread<F: StoreMaker>(
+pub(crate) fn unread<F: FileOpener, M: StoreMaker<F>>(
     rt: &HostRuntime,
     path: &str,
     standing: &Standing,
@@ -55,6 +55,6 @@ pub(crate) fn unread<F: StoreMaker>(
     match error {
         StoreError::Memory => Unread::Refused(OpenError::Memory.into()),
         StoreError::Store if !has_stood(rt, standing) => Unread::Moved,
-        StoreError::Store => refused_at::<F>(rt, path),
+        StoreError::Store => refused_at::<F, M>(rt, path),
     }
 }

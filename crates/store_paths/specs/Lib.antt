@@ -1,3 +1,4 @@
 pub mod Errors
+pub mod Opened
 pub mod Paths
 pub mod Shown

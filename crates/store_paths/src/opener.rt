@@ -69,9 +69,9 @@ pub trait FileOpener {
         ensures bytes { IfSome result (λ file. memory_bytes file ≡ Self.File.Disk.seen files.db) };
 }
 
-/// Makes the store at a path whose files it opens, or looks at it by SQL. No guarantee: of the files at a path the checker knows
+/// Makes the store at a path whose files `F` opens, or looks at it by SQL. No guarantee: of the files at a path the checker knows
 /// nothing.
-pub trait StoreMaker: FileOpener {
+pub trait StoreMaker<F: FileOpener> {
     /// Makes the store where there is none, and takes from one that stands there the second name that a stop has left.
     /// Answers whether it is new.
     fn make_missing(rt: &HostRuntime, path: &str, patience: Patience) -> Result<bool, NotOpened>;
@@ -82,9 +82,9 @@ pub trait StoreMaker: FileOpener {
     /// Whether the database in files that are only read is a store of version 1 that can be brought up to version 2.
     fn is_to_be_migrated(
         alloc: Global,
-        files: Files<Self::File>,
+        files: Files<F::File>,
         options: Options,
     ) -> Result<bool, NotOpened>
-        requires log { IsTrue (Self.File.Disk.is_usable files.log) }
-        requires db { IsTrue (Self.File.Disk.is_usable files.db) };
+        requires log { IsTrue (F.File.Disk.is_usable files.log) }
+        requires db { IsTrue (F.File.Disk.is_usable files.db) };
 }

@@ -1,9 +1,9 @@
 // A store by SQL of ample size: nothing that is asked finds memory short or the store at fault.
 use crate::holding::holds;
-use crate::stores::{Held, answered, empty, execute};
+use crate::stores::{answered, empty, execute};
 use cost_rows::Key;
 use report_texts::Cut;
-use sqlite::params;
+use sqlite::{Alter, Connection, params};
 use std::alloc::Global;
 use std::test::Fail;
 use warehouse::{Answer, Command, Query, Selection};
@@ -32,7 +32,13 @@ const LAST: [&str; 4] = [
 ];
 
 /// The rows of a run with its name.
-fn put_run(alloc: Global, conn: &mut Held, number: u32, kind: u32, calls: u32) -> Result<(), Fail> {
+fn put_run<S: Alter>(
+    alloc: Global,
+    conn: &mut Connection<S>,
+    number: u32,
+    kind: u32,
+    calls: u32,
+) -> Result<(), Fail> {
     let mut digest = [0; 32];
     digest[..4].copy_from_slice(&number.to_be_bytes());
     let text = "INSERT INTO run VALUES (?1, ?2, ?3, 'a', ?4)";
@@ -54,7 +60,7 @@ fn put_run(alloc: Global, conn: &mut Held, number: u32, kind: u32, calls: u32) -
 }
 
 /// The rows of a run of a file.
-fn put_rows(conn: &mut Held, number: u32) -> Result<(), Fail> {
+fn put_rows<S: Alter>(conn: &mut Connection<S>, number: u32) -> Result<(), Fail> {
     for text in ROWS {
         if conn.execute(text, params![number]).is_err() {
             Err("no rows")?;
@@ -64,7 +70,7 @@ fn put_rows(conn: &mut Held, number: u32) -> Result<(), Fail> {
 }
 
 /// The stacks of the last run.
-fn put_stacks(alloc: Global, conn: &mut Held) -> Result<(), Fail> {
+fn put_stacks<S: Alter>(alloc: Global, conn: &mut Connection<S>) -> Result<(), Fail> {
     for number in 1..=STACKS {
         let frames = format!(in alloc; "x{number}")?;
         let text = "INSERT INTO stack VALUES (301, ?1, 1)";
@@ -75,20 +81,18 @@ fn put_stacks(alloc: Global, conn: &mut Held) -> Result<(), Fail> {
     Ok(())
 }
 
-/// A store of that size.
-fn ample(alloc: Global) -> Result<Held, Fail> {
-    let mut conn = empty(alloc, false)?.into_connection();
-    execute(&mut conn, "INSERT INTO grp VALUES ('g', NULL)")?;
+/// The rows of a store of that size.
+fn fill<S: Alter>(alloc: Global, conn: &mut Connection<S>) -> Result<(), Fail> {
+    execute(conn, "INSERT INTO grp VALUES ('g', NULL)")?;
     for number in 1..=RUNS {
-        put_run(alloc, &mut conn, number, 1, 1)?;
-        put_rows(&mut conn, number)?;
+        put_run(alloc, conn, number, 1, 1)?;
+        put_rows(conn, number)?;
     }
-    put_run(alloc, &mut conn, 301, 2, 0)?;
+    put_run(alloc, conn, 301, 2, 0)?;
     for text in LAST {
-        execute(&mut conn, text)?;
+        execute(conn, text)?;
     }
-    put_stacks(alloc, &mut conn)?;
-    Ok(conn)
+    put_stacks(alloc, conn)
 }
 
 fn group<'a>() -> Selection<&'a [u8]> {
@@ -154,12 +158,19 @@ fn has_lines(alloc: Global, answer: Answer, lines: usize) -> Result<(), Fail> {
     holds(found == lines, "another count of lines")
 }
 
-pub fn many_runs_and_rows_are_asked(alloc: Global) -> Result<(), Fail> {
-    let mut conn = ample(alloc)?;
+/// Asks all questions.
+fn ask<S: Alter + Drop>(alloc: Global, conn: Connection<S>) -> Result<(), Fail> {
+    let mut conn = conn;
     for (query, lines) in questions() {
         let (answer, left) = answered(alloc, conn, Command::Ask(query))?;
         conn = left;
         has_lines(alloc, answer, lines)?;
     }
     Ok(())
+}
+
+pub fn many_runs_and_rows_are_asked(alloc: Global) -> Result<(), Fail> {
+    let mut conn = empty(alloc, false)?.into_connection();
+    fill(alloc, &mut conn)?;
+    ask(alloc, conn)
 }

@@ -2,9 +2,10 @@
 // is told as before.
 use crate::given::Given;
 use crate::holding::holds;
-use crate::stores::{Held, answered, empty, execute};
+use crate::stores::{answered, empty, execute};
 use cost_rows::Key;
 use report_texts::Cut;
+use sqlite::{Alter, Connection};
 use std::alloc::Global;
 use std::test::Fail;
 use warehouse::{Answer, Command, Kind, Query, Refusal, Selection};
@@ -192,14 +193,18 @@ fn command_of<'a>(asked: Asked) -> Command<Given, &'a [u8]> {
 }
 
 /// A store with one run more.
-fn imported(alloc: Global, conn: Held, kind: Kind, bytes: &'static [u8]) -> Result<Held, Fail> {
+fn imported<S: Alter + Drop>(
+    alloc: Global,
+    conn: Connection<S>,
+    kind: Kind,
+    bytes: &'static [u8],
+) -> Result<Connection<S>, Fail> {
     let (_, conn) = answered(alloc, conn, import(kind, bytes))?;
     Ok(conn)
 }
 
 /// A store with two runs and a group.
-fn two_runs(alloc: Global) -> Result<Held, Fail> {
-    let conn = empty(alloc, false)?.into_connection();
+fn two_runs<S: Alter + Drop>(alloc: Global, conn: Connection<S>) -> Result<Connection<S>, Fail> {
     let conn = imported(alloc, conn, Kind::Callgrind, CALLS)?;
     let mut conn = imported(alloc, conn, Kind::Folded, STACKS)?;
     execute(&mut conn, "INSERT INTO grp VALUES ('g', 2)")?;
@@ -207,7 +212,10 @@ fn two_runs(alloc: Global) -> Result<Held, Fail> {
 }
 
 /// What all questions are answered.
-fn told_by(alloc: Global, conn: Held) -> Result<(Vec<u8>, Held), Fail> {
+fn told_by<S: Alter + Drop>(
+    alloc: Global,
+    conn: Connection<S>,
+) -> Result<(Vec<u8>, Connection<S>), Fail> {
     let mut told = Vec::new(alloc);
     let mut conn = conn;
     for asked in QUESTIONS {
@@ -230,11 +238,11 @@ fn is_found(answer: Answer, fault: &'static str) -> Result<(), Fail> {
 }
 
 /// A store that is at fault as long as rows are out of form.
-fn mended(
+fn mended<S: Alter + Drop>(
     alloc: Global,
-    conn: Held,
+    conn: Connection<S>,
     (fault, asked, mend): (&'static str, Asked, &'static str),
-) -> Result<Held, Fail> {
+) -> Result<Connection<S>, Fail> {
     let mut conn = conn;
     execute(&mut conn, fault)?;
     let (answer, mut conn) = answered(alloc, conn, command_of(asked))?;
@@ -244,7 +252,7 @@ fn mended(
 }
 
 /// A store, after all of that.
-fn all_mended(alloc: Global, conn: Held) -> Result<Held, Fail> {
+fn all_mended<S: Alter + Drop>(alloc: Global, conn: Connection<S>) -> Result<Connection<S>, Fail> {
     let mut conn = conn;
     for fault in FAULTS {
         conn = mended(alloc, conn, fault)?;
@@ -252,12 +260,18 @@ fn all_mended(alloc: Global, conn: Held) -> Result<Held, Fail> {
     Ok(conn)
 }
 
+/// Whether it tells the same then, and something.
+fn is_whole_again<S: Alter + Drop>(alloc: Global, conn: Connection<S>) -> Result<bool, Fail> {
+    let (before, conn) = told_by(alloc, two_runs(alloc, conn)?)?;
+    let (after, conn) = told_by(alloc, all_mended(alloc, conn)?)?;
+    drop(conn);
+    Ok(!before.is_empty() && before.as_slice() == after.as_slice())
+}
+
 pub fn rows_out_of_form_are_the_stores_fault(alloc: Global) -> Result<(), Fail> {
-    let (before, conn) = told_by(alloc, two_runs(alloc)?)?;
-    let (after, _conn) = told_by(alloc, all_mended(alloc, conn)?)?;
+    let conn = empty(alloc, false)?.into_connection();
     holds(
-        !before.is_empty() && before.as_slice() == after.as_slice(),
+        is_whole_again(alloc, conn)?,
         "mended rows tell something else",
-    )?;
-    Ok(())
+    )
 }

@@ -67,29 +67,56 @@ impl StoreJob for Imported {
     }
 }
 
-/// Does a step over a database: whether it is done.
-fn done<S: Alter + Drop>(alloc: Global, conn: Connection<S>, step: Step) -> (bool, Connection<S>) {
-    let opened = match step {
-        Step::Create => Store::create(alloc, conn),
-        _ => Store::open(alloc, conn),
-    };
-    match opened {
-        Ok(store) => match step {
-            Step::Import => done_over(alloc, store, Imported {}),
-            _ => (true, store.into_connection()),
-        },
-        Err((_, conn)) => (false, conn),
+/// What is done over a database in files. It is written over any: what is called at the type of a database in files takes a
+/// third of a minute to prove at each call, so that is done in one place.
+trait DatabaseJob {
+    /// What it finds.
+    type Found;
+
+    /// Does it, and hands the database back.
+    fn over<S: Alter + Drop>(
+        self,
+        alloc: Global,
+        conn: Connection<S>,
+    ) -> (Self::Found, Connection<S>);
+}
+
+/// Does a job over the database in files: what it finds, where they hold one that is opened, and the files behind it.
+fn done_in<D: Disk + Drop, J: DatabaseJob + Drop>(
+    alloc: Global,
+    files: Files<D>,
+    job: J,
+) -> (Option<J::Found>, Files<D>) {
+    match opened(alloc, files) {
+        Ok(conn) => {
+            let (found, conn) = job.over(alloc, conn);
+            (Some(found), closed(conn))
+        }
+        Err(files) => (None, files),
     }
 }
 
-/// Does a step over files: whether it is done, and the files behind it.
-fn done_in<D: Disk + Drop>(alloc: Global, files: Files<D>, step: Step) -> (bool, Files<D>) {
-    match opened(alloc, files) {
-        Ok(conn) => {
-            let (is_done, conn) = done(alloc, conn, step);
-            (is_done, closed(conn))
+/// A step is done: whether that is answered so.
+#[derive(Drop)]
+struct Doing {
+    step: Step,
+}
+
+impl DatabaseJob for Doing {
+    type Found = bool;
+
+    fn over<S: Alter + Drop>(self, alloc: Global, conn: Connection<S>) -> (bool, Connection<S>) {
+        let opened = match self.step {
+            Step::Create => Store::create(alloc, conn),
+            _ => Store::open(alloc, conn),
+        };
+        match opened {
+            Ok(store) => match self.step {
+                Step::Import => done_over(alloc, store, Imported {}),
+                _ => (true, store.into_connection()),
+            },
+            Err((_, conn)) => (false, conn),
         }
-        Err(files) => (false, files),
     }
 }
 
@@ -112,9 +139,9 @@ fn ended_by(
     let meter = Meter::new(alloc, stops)?;
     meter.allow(changes);
     let files = files_of(alloc, &image.log, &image.database, 0, &meter)?;
-    let (is_done, files) = done_in(alloc, files, step);
+    let (is_done, files) = done_in(alloc, files, Doing { step });
     Ok(Ended {
-        is_done,
+        is_done: matches!(is_done, Some(true)),
         has_stopped: meter.is_spent(),
         left: Left::of(files),
     })
@@ -164,41 +191,53 @@ fn told_of<S: RunStore>(alloc: Global, house: &mut Warehouse<S>) -> Result<Vec<u
 struct Telling {}
 
 impl StoreJob for Telling {
-    type Found = Result<Vec<u8>, AllocError>;
+    type Found = Result<Vec<u8>, &'static str>;
 
-    fn over<S: RunStore + Drop>(self, alloc: Global, store: S) -> (Result<Vec<u8>, AllocError>, S) {
+    fn over<S: RunStore + Drop>(
+        self,
+        alloc: Global,
+        store: S,
+    ) -> (Result<Vec<u8>, &'static str>, S) {
         let mut house = Warehouse::new(store, Limits::standard());
-        let told = told_of(alloc, &mut house);
+        let told = match told_of(alloc, &mut house) {
+            Ok(told) => Ok(told),
+            Err(_) => Err("no memory to tell"),
+        };
         (told, house.into_store())
     }
 }
 
-/// The same of the store in a database; nothing where there is none, and then one can be made.
-fn told_in<S: Alter + Drop>(alloc: Global, conn: Connection<S>) -> Result<Vec<u8>, Fail> {
-    match Store::open(alloc, conn) {
-        Ok(store) => {
-            let (told, _) = done_over(alloc, store, Telling {});
-            Ok(told?)
+/// What the store in a database tells; nothing where there is none, and then one can be made.
+#[derive(Drop)]
+struct TellingAll {}
+
+impl DatabaseJob for TellingAll {
+    type Found = Result<Vec<u8>, &'static str>;
+
+    fn over<S: Alter + Drop>(
+        self,
+        alloc: Global,
+        conn: Connection<S>,
+    ) -> (Result<Vec<u8>, &'static str>, Connection<S>) {
+        match Store::open(alloc, conn) {
+            Ok(store) => done_over(alloc, store, Telling {}),
+            Err((_, conn)) => match Store::create(alloc, conn) {
+                Ok(store) => (Ok(Vec::new(alloc)), store.into_connection()),
+                Err((_, conn)) => (Err("a store that is half made"), conn),
+            },
         }
-        Err((_, conn)) => match Store::create(alloc, conn) {
-            Ok(_) => Ok(Vec::new(alloc)),
-            Err(_) => Err("a store that is half made")?,
-        },
     }
 }
 
 /// The same of files.
-fn told_in_files<D: Disk + Drop>(alloc: Global, files: Files<D>) -> Result<Vec<u8>, Fail> {
-    match opened(alloc, files) {
-        Ok(conn) => told_in(alloc, conn),
-        Err(_) => Err("the files cannot be opened")?,
-    }
-}
-
 fn told_by(alloc: Global, log: &[u8], database: &[u8]) -> Result<Vec<u8>, Fail> {
     let meter = Meter::new(alloc, Stops::Both)?;
     let files = files_of(alloc, log, database, 0, &meter)?;
-    told_in_files(alloc, files)
+    let (told, _files) = done_in(alloc, files, TellingAll {});
+    match told {
+        Some(told) => Ok(told?),
+        None => Err("the files cannot be opened")?,
+    }
 }
 
 /// Whether what a stop left tells what it has to, by what was told before the step and is told with it.
@@ -265,25 +304,33 @@ fn making_stops(alloc: Global, stops: Stops) -> Result<Image, Fail> {
     Ok(made)
 }
 
-/// Makes a store of version 1 of one of version 2, in files.
-fn made_first<D: Disk + Drop>(alloc: Global, files: Files<D>) -> Result<Files<D>, Fail> {
-    let mut conn = match opened(alloc, files) {
-        Ok(conn) => conn,
-        Err(_) => Err("the files cannot be opened")?,
-    };
-    for text in BACK {
-        if conn.execute(text, &[]).is_err() {
-            Err("no store of version 1")?;
+/// A store of version 1 is made of one of version 2: whether it is.
+#[derive(Drop)]
+struct MakingFirst {}
+
+impl DatabaseJob for MakingFirst {
+    type Found = bool;
+
+    fn over<S: Alter + Drop>(self, _alloc: Global, conn: Connection<S>) -> (bool, Connection<S>) {
+        let mut conn = conn;
+        for text in BACK {
+            if conn.execute(text, &[]).is_err() {
+                return (false, conn);
+            }
         }
+        (true, conn)
     }
-    Ok(closed(conn))
 }
 
 /// The files of a store of version 1 with what a store holds.
 fn as_first(alloc: Global, image: &Image) -> Result<Image, Fail> {
     let meter = Meter::new(alloc, Stops::Both)?;
     let files = files_of(alloc, &image.log, &image.database, 0, &meter)?;
-    Ok(Left::of(made_first(alloc, files)?).into_written())
+    let (is_made, files) = done_in(alloc, files, MakingFirst {});
+    if !matches!(is_made, Some(true)) {
+        Err("no store of version 1")?;
+    }
+    Ok(Left::of(files).into_written())
 }
 
 /// Stops at each change of the opening of a store of version 1, which tells what it told before.

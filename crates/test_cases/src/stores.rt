@@ -9,15 +9,16 @@ use std::alloc::Global;
 use std::test::Fail;
 use warehouse::{Answer, Command, Limits, Warehouse};
 
-/// A database in memory.
-pub(crate) type Held = Connection<MemStore>;
+// What is done to a database is written over any: what is called at the type of one takes many seconds to prove at each call.
 
 /// A store in which a text was run, with the run 1, the names `a` (1), `b` (2), `c` (3) and `g` (7), and
 /// cells of the run on the lines 1, 2, .., each of which costs as much as its line says.
-pub(crate) fn filled(alloc: Global, text: &str, cells: u32) -> Result<Store<MemStore>, StoreError> {
-    let Ok(conn) = Connection::open_in_memory(alloc) else {
-        return Err(StoreError::Memory);
-    };
+fn filled_in<S: Alter + Drop>(
+    alloc: Global,
+    conn: Connection<S>,
+    text: &str,
+    cells: u32,
+) -> Result<Store<S>, StoreError> {
     let mut conn = match Store::create(alloc, conn) {
         Ok(store) => store.into_connection(),
         Err(_) => return Err(StoreError::Store),
@@ -43,11 +44,20 @@ pub(crate) fn filled(alloc: Global, text: &str, cells: u32) -> Result<Store<MemS
     }
 }
 
+/// The same in memory.
+pub(crate) fn filled(alloc: Global, text: &str, cells: u32) -> Result<Store<MemStore>, StoreError> {
+    match Connection::open_in_memory(alloc) {
+        Ok(conn) => filled_in(alloc, conn, text, cells),
+        Err(_) => Err(StoreError::Memory),
+    }
+}
+
 /// A store without rows, which has an open transaction or not.
-pub(crate) fn empty(alloc: Global, is_within: bool) -> Result<Store<MemStore>, StoreError> {
-    let Ok(conn) = Connection::open_in_memory(alloc) else {
-        return Err(StoreError::Memory);
-    };
+fn empty_in<S: Alter + Drop>(
+    alloc: Global,
+    conn: Connection<S>,
+    is_within: bool,
+) -> Result<Store<S>, StoreError> {
     let mut conn = match Store::create(alloc, conn) {
         Ok(store) => store.into_connection(),
         Err(_) => return Err(StoreError::Store),
@@ -61,8 +71,16 @@ pub(crate) fn empty(alloc: Global, is_within: bool) -> Result<Store<MemStore>, S
     }
 }
 
+/// The same in memory.
+pub(crate) fn empty(alloc: Global, is_within: bool) -> Result<Store<MemStore>, StoreError> {
+    match Connection::open_in_memory(alloc) {
+        Ok(conn) => empty_in(alloc, conn, is_within),
+        Err(_) => Err(StoreError::Memory),
+    }
+}
+
 /// Changes rows by SQL.
-pub(crate) fn execute(conn: &mut Held, text: &str) -> Result<(), Fail> {
+pub(crate) fn execute<S: Alter>(conn: &mut Connection<S>, text: &str) -> Result<(), Fail> {
     if conn.execute(text, &[]).is_err() {
         Err("the rows are not changed")?;
     }
@@ -106,11 +124,11 @@ impl StoreJob for Applied<'_> {
 }
 
 /// Does a command over the store of a database.
-pub(crate) fn answered(
+pub(crate) fn answered<S: Alter + Drop>(
     alloc: Global,
-    conn: Held,
+    conn: Connection<S>,
     command: Command<Given, &[u8]>,
-) -> Result<(Answer, Held), Fail> {
+) -> Result<(Answer, Connection<S>), Fail> {
     match Store::open(alloc, conn) {
         Ok(store) => Ok(done_over(alloc, store, Applied { command })),
         Err(_) => Err("no store")?,

@@ -8,7 +8,7 @@ use held_runs::{
     members_of, names_of, sums_of,
 };
 use prof_store::{Store, StoreError};
-use sqlite::MemStore;
+use sqlite::Alter;
 use std::alloc::Global;
 use std::test::Fail;
 
@@ -56,7 +56,7 @@ impl CellSink for CellSums<'_> {
 }
 
 /// What the cells of run 1 come to, of two events.
-fn cells(store: &mut Store<MemStore>, alloc: Global) -> Result<(u128, u128, u64), StoreError> {
+fn cells<S: Alter>(store: &mut Store<S>, alloc: Global) -> Result<(u128, u128, u64), StoreError> {
     let names = names_of(store, alloc)?;
     let none = CellSums {
         names: &names,
@@ -102,7 +102,7 @@ impl CallSink for CallSums<'_> {
 }
 
 /// What the calls of run 1 come to, of two events.
-fn calls(store: &mut Store<MemStore>, alloc: Global) -> Result<(u128, u128), StoreError> {
+fn calls<S: Alter>(store: &mut Store<S>, alloc: Global) -> Result<(u128, u128), StoreError> {
     let names = names_of(store, alloc)?;
     let none = CallSums {
         names: &names,
@@ -137,31 +137,32 @@ pub fn calls_are_walked(alloc: Global) -> Result<(), Fail> {
     Ok(())
 }
 
-/// With one allocation refused (`tests/by_hand/refuse_each`), the call that meets it says so, and the next is whole.
+/// The call that meets a refusal of memory says so, and the next is whole.
+fn is_walked_again<S: Alter>(store: &mut Store<S>, alloc: Global) -> Result<bool, StoreError> {
+    let costs = match cells(store, alloc) {
+        Err(StoreError::Memory) => cells(store, alloc)?,
+        told => told?,
+    };
+    let told = match calls(store, alloc) {
+        Err(StoreError::Memory) => calls(store, alloc)?,
+        told => told?,
+    };
+    Ok(costs == (3, 0, 3) && told == (4, 400))
+}
+
+/// So with one allocation refused, by `tests/by_hand/refuse_each`.
 pub fn memory_refused_to_walk(alloc: Global) -> Result<(), Fail> {
     let mut store = match filled(alloc, CALLS, 2) {
         Ok(store) => store,
         Err(_) => filled(alloc, CALLS, 2)?,
     };
-    let costs = match cells(&mut store, alloc) {
-        Err(StoreError::Memory) => cells(&mut store, alloc)?,
-        told => told?,
-    };
-    let told = match calls(&mut store, alloc) {
-        Err(StoreError::Memory) => calls(&mut store, alloc)?,
-        told => told?,
-    };
-    holds(
-        costs == (3, 0, 3) && told == (4, 400),
-        "other sums behind a refusal",
-    )?;
-    Ok(())
+    let is_walked = is_walked_again(&mut store, alloc);
+    drop(store);
+    holds(is_walked?, "other sums behind a refusal")
 }
 
 /// A run without events and a group without members are empty; a kind and a baseline have to be there.
-pub fn what_is_not_held_is_not_told(alloc: Global) -> Result<(), Fail> {
-    let mut store = filled(alloc, "INSERT INTO grp VALUES ('all', 1)", 0)?;
-    let store = &mut store;
+fn tells_what_is_held<S: Alter>(store: &mut Store<S>, alloc: Global) -> Result<(), Fail> {
     holds(
         members_of(store, alloc, "al")?.is_empty(),
         "a member of no group",
@@ -177,4 +178,9 @@ pub fn what_is_not_held_is_not_told(alloc: Global) -> Result<(), Fail> {
     )?;
     holds(baseline_of(store, "all")? == Some(1), "another baseline")?;
     Ok(())
+}
+
+pub fn what_is_not_held_is_not_told(alloc: Global) -> Result<(), Fail> {
+    let mut store = filled(alloc, "INSERT INTO grp VALUES ('all', 1)", 0)?;
+    tells_what_is_held(&mut store, alloc)
 }

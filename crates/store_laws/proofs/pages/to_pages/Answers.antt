@@ -3,7 +3,7 @@ use Rattle.std.proofs.Math.Logic.{∥∥₁_map}
 use Rattle.sqlite.specs.Effect.{Database}
 use Rattle.store_schema.specs.Tables.{Holds}
 use Rattle.page_files.specs.Files.{page_size}
-use Rattle.store_laws.proofs.Plain.{held_plainly}
+use Rattle.store_openers.proofs.Plain.{held_plainly}
 use Rattle.store_laws.proofs.pages.to_pages.Goals as goal
 
 all_three : {X E : Type 0} {P Q R S : X → Type 0} (opened : Result X E) → ((x : X) → P x → Q x → R x → S x) → IfOk opened P → IfOk opened Q → IfOk opened R → IfOk opened S

@@ -1,6 +1,8 @@
 use Rattle.std.proofs.Common.{◌≡◌, Result, Ok, Err, IfOk, subst, sym}
-use Rattle.store_openers.specs.Opened.{IsStoreOf}
-use Rattle.store_openers.proofs.path_openers.PathOpenerOpener.beside.Goals as goal
+use Rattle.page_runs.specs.States.{state_of}
+use Rattle.store_paths.specs.Opened.{IsStoreOf}
+use Rattle.store_paths.specs.Shown.{HoldsRows}
+use Rattle.store_openers.proofs.looking.beside.Goals as goal
 
 -- what is handed on beside another is as it was
 kept : {T U E : Type 0} (P : T → Type 0) (x : T) (r : Result (T × U) E) → IfOk r (λ k. k.0 ≡ x) → P x → IfOk r (λ k. P k.0)
@@ -9,4 +11,4 @@ kept P x (Err e) is p = tt
 
 pub returns-in-Ok-store_in : goal.returns-in-Ok-store_in
 returns-in-Ok-store_in g c =
-    kept (IsStoreOf g.F.FileOpener.image) c.in-Ok-store_in.store c.kept_beside.result c.kept_beside.ensures (c.in-Ok-store_in.ensures g.F.FileOpener.image c.in_ok-files.ensures)
+    kept (IsStoreOf state_of (HoldsRows g.F.FileOpener.image)) c.in-Ok-store_in.store c.kept_beside.result c.kept_beside.ensures (c.in-Ok-store_in.ensures g.F.FileOpener.image c.in_ok-files.ensures)
