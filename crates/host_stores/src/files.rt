@@ -9,9 +9,7 @@ ghost use Rattle.store_paths.specs.Shown.{ShowImage};
 ghost use Rattle.host_stores.specs.Files.{AreUntouched};
 
 use crate::hosts::Host;
-use file_disks::{
-    EitherDisk, ReadOnly, Standing, Unopened, as_one, as_other, other_of, read_only,
-};
+use file_disks::{EitherDisk, ReadOnly, Standing, Unopened, as_one, as_other, other_of, read_only};
 use prof_store::OpenError;
 use sqlite_disk::{Disk, Files as DiskFiles, Memory, Start};
 use std::alloc::Global;

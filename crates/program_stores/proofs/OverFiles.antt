@@ -41,20 +41,20 @@ module _ {S : Type 0} (g : Ghosts S) (held : Tables → Type 0) (Says : Limits �
   works_asked answered old new works asks faithful =
       let asked = asks faithful in
       λ h holds.
-          let is = works asked.stays.was_faithful h holds in
-          record {
-            limits = is.limits;
-            standard = is.standard;
-            steps = is.steps;
-            legal = is.legal;
-            says = is.says;
-            after = record {
-              legal = is.after.legal;
-              represents = λ usable.
-                  let rests = is.after.represents (asked.stays.was_usable usable) in
-                  record { t = rests.t; represents = asked.kept.represents rests.t rests.represents usable; agrees = rests.agrees };
-            };
-          }
+      let is = works asked.stays.was_faithful h holds in
+      record {
+        limits = is.limits;
+        standard = is.standard;
+        steps = is.steps;
+        legal = is.legal;
+        says = is.says;
+        after = record {
+          legal = is.after.legal;
+          represents = λ usable.
+              let rests = is.after.represents (asked.stays.was_usable usable) in
+              record { t = rests.t; represents = asked.kept.represents rests.t rests.represents usable; agrees = rests.agrees };
+        };
+      }
 
 module _ {F V W : Type 0} (remaining : F → Option (List ℕ)) (contents : W → Option (List ℕ)) (inner : V → W) where
   -- what is said of a writer around another is said of that
