@@ -105,7 +105,7 @@ fn run_commands<'a, S: RunStore + Drop, P: Opener<S>, O: Outputs>(
     }
 }
 
-/// What a plan asks for. (A last arm of a `match` stands for each other variant, and costs a proof for each: so it is cut off.)
+/// What a plan asks for.
 enum Asked<'p> {
     Total(&'p str),
     Serve(&'p str, Service),

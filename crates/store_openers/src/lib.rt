@@ -2,7 +2,7 @@
 //! hold.
 #![tactic(auto)]
 
-// Opens the store in files (specs/Opened.antt).
+// Opens the store in files.
 mod opening;
 // The store at a path, read beside others, and why one that is not to be changed is refused.
 mod looking;
