@@ -20,7 +20,7 @@ use Rattle.cg_text.proofs.JoinedLemmas.{lines_of-joined}
 use Rattle.folded_reader.specs.Files.{fault_from, readings_of, stacks_from}
 use Rattle.folded_reader.specs.Lines.{Reading, behind_blank, count_of, counted, cut_at, reading_of, some_stack, stack_of, text_says}
 use Rattle.report_texts.specs.Folded.{counts_of, folded_text, stack_line, stack_text}
-use Rattle.cost_exports.specs.ReadBack.{AreReadable, IsReadable, ReadsAs}
+use Rattle.cost_exports.specs.ReadBack.{AreReadable, IsReadable, ReadsBackAs}
 
 -- ---- digits
 
@@ -195,7 +195,7 @@ same_stacks : (n : ℕ) (stacks : List (List ℕ × ℕ)) → counts_of (stacks_
 same_stacks n [] = refl
 same_stacks n (e ∷ stacks) = ap (λ rest. e ∷ rest) (same_stacks (n + 1) stacks)
 
-pub read-back : (stacks : List (List ℕ × ℕ)) → AreReadable stacks → ReadsAs (folded_text stacks) stacks
+pub read-back : (stacks : List (List ℕ × ℕ)) → AreReadable stacks → ReadsBackAs (folded_text stacks) stacks
 read-back stacks are = record {
   accepted = ap (fault_from 1) (readings_are stacks are) ∙ no_fault 1 stacks;
   stacks = ap (λ readings. counts_of (stacks_from 1 readings)) (readings_are stacks are) ∙ same_stacks 1 stacks;

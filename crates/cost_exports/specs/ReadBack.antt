@@ -18,6 +18,6 @@ abbrev pub AreReadable : List (List ℕ × ℕ) → Type 0
 AreReadable stacks = AllByRecursion IsReadable stacks
 
 -- a text is an accepted folded file of these stacks, one on each line
-pub record ReadsAs (text : List ℕ) (sums : List (List ℕ × ℕ)) : Type 0 where
+pub record ReadsBackAs (text : List ℕ) (sums : List (List ℕ × ℕ)) : Type 0 where
   pub accepted : fault_of_file text ≡ None
   pub stacks : counts_of (stacks_of_file text) ≡ sums

@@ -8,7 +8,7 @@ ghost use Rattle.profile_records.specs.Stacks.{Seen};
 ghost use Rattle.report_texts.specs.Annotations.{HaveCostsEach, annotation_of, annotation_of_records, cost_of_lines, know_file, no_lines, with_line};
 ghost use Rattle.report_texts.specs.Csv.{EventSpot, NamedCells, NamedRecords, NamesStandForEach, csv_fields, csv_header, csv_of_cells, csv_of_records, csv_text};
 ghost use Rattle.report_texts.specs.Folded.{folded_of_rows, folded_of_stacks, folded_text};
-ghost use Rattle.cost_exports.specs.ReadBack.{AreReadable, ReadsAs};
+ghost use Rattle.cost_exports.specs.ReadBack.{AreReadable, ReadsBackAs};
 
 /// What the lines of a source cost, and what is outside, sum to the total, whatever the source.
 pub fn shown_and_outside_are_the_total()
@@ -51,5 +51,5 @@ pub fn folded_stacks_sum_to_the_stacks()
 /// line: of stacks of one byte or more and without a line feed, of counts from 1 to 2^63-1, and of lines
 /// that are not too long.
 pub fn folded_texts_read_back()
-    ensures { (stacks : List (List ℕ × ℕ)) → AreReadable stacks → ReadsAs (folded_text stacks) stacks }
+    ensures { (stacks : List (List ℕ × ℕ)) → AreReadable stacks → ReadsBackAs (folded_text stacks) stacks }
 {}

@@ -53,7 +53,6 @@ module _ (h : History) (format : Format) (label : List ℕ) (xs ys : List Outcom
     named = represent.named;
     next = represent.next ∙ next_same;
     runs = subst (λ files. AreBooksOf files (book_of t).runs) held_same represent.runs;
-    in_order = represent.in_order;
     groups = represent.groups ∙ groups_same;
     baselines = all_on (λ (g : GroupRow). g.baseline ≡ baseline (h ++ first ∷ []) g.name) (λ (g : GroupRow). g.baseline ≡ baseline (h ++ second ∷ []) g.name) t.groups (λ g is. is ∙ baseline_same g.name) represent.baselines;
     members = λ name n. represent.members name n ∙ member_same name n;

@@ -8,6 +8,7 @@ use Rattle.histories.specs.History.{History, Command, Step, with_step}
 use Rattle.histories.specs.Legal.{IsLegal}
 use Rattle.histories.specs.declared.answers.Answer.{Answer}
 use Rattle.histories.specs.declared.limits.Limits.{Limits}
+use Rattle.histories.specs.Representation.{TablesRepresent}
 use Rattle.histories.proofs.Steps.{tell_same}
 use Rattle.histories.specs.Answered.{Answers, HasHistory, Links, RepresentsHistory, is_accepted}
 use Rattle.histories.specs.Left.{LeavesHistory, MayBeLeft}
@@ -23,22 +24,37 @@ not_open b is usable = let both : false ≡ true = sym is ∙ usable in cc both
 -- ---- an answer that changed nothing changes nothing of what may be left
 
 still_left : {S : Type 0} (g : Ghosts S) (limits : Limits) (h : History) (command : Command) (answer : Answer) → IsLegal limits h command answer → is_accepted answer ≡ false → (left : g.Left) → MayBeLeft g limits h left → MayBeLeft g limits (with_step h command answer) left
-still_left g limits h command answer legal undone left (inl was) = inl (record { t = was.t; holds = tell_same limits h command answer was.t (stays_still answer undone) was.holds legal; is = was.is })
-still_left g limits h command answer legal undone left (inr was) =
-    let step : Step = record { command = command; answer = answer } in
-    inr (record {
-      before = was.before;
-      step = was.step;
-      later = was.later ++ step ∷ [];
-      parts = ap (λ l. l ++ step ∷ []) was.parts ∙ append_assoc was.before (was.step ∷ was.later) (step ∷ []);
-      failed = was.failed;
-      undone = all_more (λ (t : Step). is_accepted t.answer ≡ false) was.later step was.undone undone;
-      done = was.done;
-    })
+still_left g limits h command answer legal undone left was = elim was.may [
+  | inl same ↦
+      (let held = subst (λ told. Holds g (TablesRepresent told) left) same was.held in
+      record {
+        told = with_step h command answer;
+        may = inl refl;
+        held = record { t = held.t; holds = tell_same limits h command answer held.t (stays_still answer undone) held.holds legal; is = held.is };
+      })
+  | inr done ↦
+      (let step : Step = record { command = command; answer = answer } in
+      record {
+        told = was.told;
+        may = inr (record {
+          before = done.before;
+          step = done.step;
+          later = done.later ++ step ∷ [];
+          parts = ap (λ l. l ++ step ∷ []) done.parts ∙ append_assoc done.before (done.step ∷ done.later) (step ∷ []);
+          failed = done.failed;
+          undone = all_more (λ (t : Step). is_accepted t.answer ≡ false) done.later step done.undone undone;
+          answer = done.answer;
+          accepted = done.accepted;
+          legal = done.legal;
+          is = done.is;
+        });
+        held = was.held;
+      })
+]
 
 module _ {S : Type 0} (g : Ghosts S) (limits : Limits) (survives : (t : Tables) (store : S) (left : g.Left) → Represents g t store → g.may_leave store left → g.holds t left) where
   pub left_standing : (h : History) (store : S) → RepresentsHistory g h store → LeavesHistory g limits h store
-  left_standing h store s left may = inl (record { t = s.t; holds = s.agrees; is = survives s.t store left s.represents may })
+  left_standing h store s left may = record { told = h; may = inl refl; held = record { t = s.t; holds = s.agrees; is = survives s.t store left s.represents may } }
 
   left_more : (h : History) (command : Command) (answer : Answer) (old new : S) → HasHistory g h old → Answers g limits command answer old new → LeavesHistory g limits h old → LeavesHistory g limits (with_step h command answer) new
   left_more h command answer old new has step was left may = by_new (g.is_usable new) refl
@@ -61,15 +77,22 @@ module _ {S : Type 0} (g : Ghosts S) (limits : Limits) (survives : (t : Tables) 
               let s = has.represents usable in
               elim (step.stepped.crash h (record { t = s.t; holds = s.agrees; represents = s.represents }) left may) [
                 | inl before ↦ still (was left before)
-                | inr after ↦ inr (record {
-                  before = h;
-                  step = record { command = command; answer = answer };
-                  later = [];
-                  parts = refl;
-                  failed = elim (step.closes usable) [ inl yet ↦ absurd (not_open (g.is_usable new) is yet) | inr failed ↦ failed ];
-                  undone = tt;
-                  done = after;
-                })
+                | inr after ↦ record {
+                  told = with_step h command after.holds.answer;
+                  may = inr (record {
+                    before = h;
+                    step = record { command = command; answer = answer };
+                    later = [];
+                    parts = refl;
+                    failed = elim (step.closes usable) [ inl yet ↦ absurd (not_open (g.is_usable new) is yet) | inr failed ↦ failed ];
+                    undone = tt;
+                    answer = after.holds.answer;
+                    accepted = after.holds.accepted;
+                    legal = after.holds.legal;
+                    is = refl;
+                  });
+                  held = record { t = after.t; holds = after.holds.agrees; is = after.is };
+                }
               ]
           by_old false shut = elim (step.shut (not_open (g.is_usable old) shut) left may) [ inl before ↦ still (was left before) | inr none ↦ absurd none ]
 

@@ -29,7 +29,6 @@ use Rattle.histories.specs.Legal.{IsLegal}
 use Rattle.histories.specs.Representation.{IsBookOf, AreBooksOf, TablesRepresent, event_rows_from}
 use Rattle.histories.specs.declared.answers.Answer.TheVariants.{Run}
 use Rattle.histories.specs.declared.limits.Limits.{Limits}
-use Rattle.run_stores.proofs.Ordered.{file_in_order}
 use Rattle.histories.proofs.Baselines.{baseline_other}
 use Rattle.histories.proofs.Books.{books_push}
 use Rattle.histories.proofs.Groups.{groups_other}
@@ -126,7 +125,6 @@ module _ (limits : Limits) (h : History) (kind : Kind) (label : List ℕ) (outco
             subst (λ (b : Book). AreBooksOf (held later) b.runs) (sym book)
             (subst (λ files. AreBooksOf files ((book_of t).runs ++ file_book t.next kind digest label head c ∷ [])) (sym (held_insert h (today kind) label outcomes t.next))
             (books_push (held h) (book_of t).runs (record { number = t.next; format = today kind; label = label; bytes = bytes_of outcomes }) (file_book t.next kind digest label head c) represent.runs one));
-        in_order = file_in_order kind digest label head c t was represent.in_order;
         groups = ap (λ (b : Book). map (λ (g : GroupRow). g.name) b.groups) book ∙ represent.groups ∙ sym (groups_other h (Import (today kind) label outcomes) (Run t.next) tt);
         baselines =
             subst (λ (b : Book). AllByRecursion (λ (g : GroupRow). g.baseline ≡ baseline later g.name) b.groups) (sym book)

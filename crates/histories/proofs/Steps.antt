@@ -22,14 +22,13 @@ use Rattle.histories.proofs.Groups.{groups_other, groups_same, groups_made, grou
 use Rattle.histories.proofs.Held.{IsStill, held_still, held_done, held_removed, next_still, next_done}
 use Rattle.histories.proofs.Invariants.{no_baseline}
 use Rattle.histories.proofs.Members.{member_other, member_made, member_based, member_removed, member_dropped, member_left, member_joined}
-use Rattle.run_stores.proofs.Ordered.{new_in_order, with_baseline_in_order, with_group_in_order, with_member_in_order, without_group_in_order, without_member_in_order, without_run_in_order}
 use Rattle.histories.proofs.Tests.{all_on, all_map, all_push, any-append, any-filter, or-false, number-flip, bytes-flip}
 use Rattle.histories.proofs.StepsTo.{history_more}
 
 -- ---- nothing, and what changes nothing
 
 pub tell_nothing : TablesRepresent [] new_tables
-tell_nothing = record { legal = tt; named = named_new; next = refl; runs = tt; in_order = new_in_order; groups = refl; baselines = tt; members = λ name n. refl }
+tell_nothing = record { legal = tt; named = named_new; next = refl; runs = tt; groups = refl; baselines = tt; members = λ name n. refl }
 
 pub tell_same : (limits : Limits) (h : History) (command : Command) (answer : Answer) (t : Tables) → IsStill answer → TablesRepresent h t → IsLegal limits h command answer → TablesRepresent (with_step h command answer) t
 tell_same limits h command answer t still represent legal =
@@ -39,7 +38,6 @@ tell_same limits h command answer t still represent legal =
       named = represent.named;
       next = represent.next ∙ sym (next_still h command answer still);
       runs = subst (λ files. AreBooksOf files (book_of t).runs) (sym (held_still h command answer still)) represent.runs;
-      in_order = represent.in_order;
       groups = represent.groups ∙ sym (groups_other h command answer other);
       baselines =
           all_on (λ (g : GroupRow). g.baseline ≡ baseline h g.name) (λ (g : GroupRow). g.baseline ≡ baseline (with_step h command answer) g.name) t.groups
@@ -83,7 +81,6 @@ tell_removed limits h n t represent legal = record {
   runs =
       subst (λ files. AreBooksOf files (book_of (without_run n t)).runs) (sym (held_removed h n))
       (subst (λ (b : Book). AreBooksOf (filter (λ f. not (f.number == n)) (held h)) b.runs) (sym (book_dropped n t)) (books_left n (held h) (book_of t).runs represent.runs));
-  in_order = without_run_in_order n t represent.in_order;
   groups = map_same (cleared n) (λ (g : GroupRow). g.name) t.groups (cleared_name n) ∙ represent.groups ∙ sym (groups_same h (Remove n) tt);
   baselines =
       all_map (λ (g : GroupRow). g.baseline ≡ baseline h g.name) (λ (g : GroupRow). g.baseline ≡ baseline (with_step h (Remove n) Done) g.name) (cleared n) t.groups
@@ -102,7 +99,6 @@ tell_made limits h name t represent legal = record {
   named = named_grouped t (with_group name t).groups t.members represent.named;
   next = represent.next ∙ sym (next_done h (MakeGroup name));
   runs = subst (λ files. AreBooksOf files (book_of t).runs) (sym (held_done h (MakeGroup name) tt)) represent.runs;
-  in_order = with_group_in_order name t represent.in_order;
   groups = names t.groups ∙ ap (λ l. l ++ name ∷ []) represent.groups ∙ sym (groups_made h name);
   baselines =
       all_push (λ (g : GroupRow). g.baseline ≡ baseline (with_step h (MakeGroup name) Done) g.name) t.groups (record { name = name; baseline = None } ∷ [])
@@ -122,7 +118,6 @@ tell_dropped limits h name t represent legal = record {
   named = named_grouped t (without_group name t).groups (without_group name t).members represent.named;
   next = represent.next ∙ sym (next_done h (DropGroup name));
   runs = subst (λ files. AreBooksOf files (book_of t).runs) (sym (held_done h (DropGroup name) tt)) represent.runs;
-  in_order = without_group_in_order name t represent.in_order;
   groups = names t.groups ∙ ap (filter (λ other. not (bytes_eq other name))) represent.groups ∙ sym (groups_dropped h name);
   baselines = kept t.groups represent.baselines;
   members = λ other n.
@@ -184,7 +179,6 @@ tell_joined limits h name n t represent legal = go (has_member t name n) refl
       named = represent.named;
       next = represent.next ∙ sym (next_done h (Join name n));
       runs = subst (λ files. AreBooksOf files (book_of t).runs) (sym (held_done h (Join name n) tt)) represent.runs;
-      in_order = represent.in_order;
       groups = represent.groups ∙ sym (groups_same h (Join name n) tt);
       baselines = grouped_baselines h (with_step h (Join name n) Done) t.groups (baseline_joined h name n) represent.baselines;
       members = λ other k. represent.members other k ∙ in_group other k there ∙ sym (member_joined h name n other k);
@@ -194,7 +188,6 @@ tell_joined limits h name n t represent legal = go (has_member t name n) refl
       named = named_grouped t t.groups (with_member name n t).members represent.named;
       next = represent.next ∙ sym (next_done h (Join name n));
       runs = subst (λ files. AreBooksOf files (book_of t).runs) (sym (held_done h (Join name n) tt)) represent.runs;
-      in_order = with_member_in_order name n t represent.in_order;
       groups = represent.groups ∙ sym (groups_same h (Join name n) tt);
       baselines = grouped_baselines h (with_step h (Join name n) Done) t.groups (baseline_joined h name n) represent.baselines;
       members = λ other k.
@@ -208,7 +201,6 @@ tell_left limits h name n t represent legal = record {
   named = named_grouped t t.groups (without_member name n t).members represent.named;
   next = represent.next ∙ sym (next_done h (Leave name n));
   runs = subst (λ files. AreBooksOf files (book_of t).runs) (sym (held_done h (Leave name n) tt)) represent.runs;
-  in_order = without_member_in_order name n t represent.in_order;
   groups = represent.groups ∙ sym (groups_same h (Leave name n) tt);
   baselines = grouped_baselines h (with_step h (Leave name n) Done) t.groups (baseline_left h name n) represent.baselines;
   members = λ other k.
@@ -230,7 +222,6 @@ tell_based limits h name n t represent legal = record {
   named = named_grouped t (with_baseline name n t).groups t.members represent.named;
   next = represent.next ∙ sym (next_done h (SetBaseline name n));
   runs = subst (λ files. AreBooksOf files (book_of t).runs) (sym (held_done h (SetBaseline name n) tt)) represent.runs;
-  in_order = with_baseline_in_order name n t represent.in_order;
   groups = map_same (based name n) (λ (g : GroupRow). g.name) t.groups set_name ∙ represent.groups ∙ sym (groups_same h (SetBaseline name n) tt);
   baselines =
       all_map (λ (g : GroupRow). g.baseline ≡ baseline h g.name) (λ (g : GroupRow). g.baseline ≡ baseline (with_step h (SetBaseline name n) Done) g.name) (based name n) t.groups

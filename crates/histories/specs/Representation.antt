@@ -8,7 +8,6 @@ use Rattle.cost_rows.specs.StackSums.{frames_sum}
 use Rattle.cost_rows.specs.WalkSums.{rows_cost, stacks_count}
 use Rattle.cost_rows.specs.Walks.{HaveCosts, HaveCounts}
 use Rattle.plain_tables.specs.Changes.{has_member}
-use Rattle.run_stores.specs.Order.{AreInOrder}
 use Rattle.plain_tables.specs.Tables.{Tables, EventRow, GroupRow}
 use Rattle.run_stores.specs.Book.{RunBook, book_of, IsNamed}
 use Rattle.run_stores.specs.BookEntries.{HeldRun}
@@ -83,7 +82,6 @@ pub record TablesRepresent (h : History) (t : Tables) : Type 0 where
   pub named : IsNamed t
   pub next : t.next ≡ next h
   pub runs : AreBooksOf (held h) (book_of t).runs
-  pub in_order : AreInOrder t
   pub groups : map (λ (g : GroupRow). g.name) t.groups ≡ groups h
   pub baselines : AllByRecursion (λ (g : GroupRow). g.baseline ≡ baseline h g.name) t.groups
   pub members : (name : List ℕ) (n : ℕ) → has_member t name n ≡ is_member h name n

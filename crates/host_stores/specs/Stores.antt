@@ -49,7 +49,7 @@ pub record IsBroughtUp {S : Type 0} (g : Ghosts S) (old : Held S) (is_first : Bo
   pub brought_up : IsTrue is_first → HasCleanDisk (state g new) → TakesUp g false asked new
 
 -- SQL opened the database in files, which is a store of version 1 or not
-pub record IsFoundIn {D : Type 0} (g : disk.Ghosts D) (files : Files D) (is_first : Bool) : Type 0 where
+pub record IsFirstBySql {D : Type 0} (g : disk.Ghosts D) (files : Files D) (is_first : Bool) : Type 0 where
   pub old : Held (FileStore D g)
   pub finds : HasCleanDisk (file_state old) → Finds files old
   pub brought_up : IsBroughtUp over_files old is_first

@@ -6,7 +6,7 @@ ghost use Rattle.sqlite.specs.State.{HasCleanDisk};
 ghost use Rattle.sqlite_value.specs.Order.{column};
 ghost use Rattle.sqlite_value.specs.declared.value.Value.TheVariants.{Int};
 ghost use Rattle.sqlite_wal.specs.Reads.{AreClean, OnlyReads};
-ghost use Rattle.host_stores.specs.Stores.{AsksForFirst, IsBroughtUp, IsFoundIn, SaysFirst};
+ghost use Rattle.host_stores.specs.Stores.{AsksForFirst, IsBroughtUp, IsFirstBySql, SaysFirst};
 
 use crate::causes::error_of_open;
 use crate::stores::{database_in, ready_in};
@@ -98,7 +98,7 @@ fn is_migratable<D: Disk + Drop>(
 ) -> Result<bool, NotOpened>
     requires log { IsTrue (D.Disk.is_usable files.log) }
     requires db { IsTrue (D.Disk.is_usable files.db) }
-    ensures { IfOk result (IsFoundIn D.Disk files) }
+    ensures { IfOk result (IsFirstBySql D.Disk files) }
 {
     let mut options = options;
     options.checkpoint_frames = usize::MAX;

@@ -9,7 +9,7 @@ use Rattle.httparse.specs.Spans.{RequestOverflows}
 use Rattle.httparse.specs.declared.spans.HeaderSpan.{HeaderSpan}
 use Rattle.byte_io.specs.Outcomes.{Outcome, Gave, Failed, bytes_of}
 use Rattle.byte_io.proofs.Outcomes.{bytes_on, bytes_failed}
-use Rattle.http_exchange.specs.Heads.{HasNoHead, IsFoundIn, head_limit, field_limit}
+use Rattle.http_exchange.specs.Heads.{HasNoHead, IsHeadFound, head_limit, field_limit}
 use Rattle.http_exchange.specs.declared.heads.Head.TheVariants.{Unfinished, Malformed}
 use Rattle.http_exchange.specs.Received.{is_short, IsAwaiting, EndWith, IsBadHead, IsCutOff}
 use Rattle.http_exchange.proofs.Steps.{any_join}
@@ -64,7 +64,7 @@ module _ (reads : List Outcome) (was : IsAwaiting reads) where
 
   -- the bytes that came with one read more
   module _ (piece bytes : List ℕ) (fields : List HeaderSpan) (all : bytes_of (reads ++ Gave piece ∷ []) ≡ bytes) where
-    pub await_on : 0 < length piece → IsFoundIn bytes fields Unfinished → IsAwaiting (reads ++ Gave piece ∷ [])
+    pub await_on : 0 < length piece → IsHeadFound bytes fields Unfinished → IsAwaiting (reads ++ Gave piece ∷ [])
     await_on some found = record {
       gave = any_join is_short reads (Gave piece ∷ []) was.gave (ap (λ b. b || false) (no_short piece some));
       none = subst HasNoHead (sym all) found.0;
@@ -72,7 +72,7 @@ module _ (reads : List Outcome) (was : IsAwaiting reads) where
       short = let many = ap length all in let few = found.2 in omega (arith, many, few);
     }
 
-    pub bad_head : IsFoundIn bytes fields Malformed → IsBadHead (reads ++ Gave piece ∷ [])
+    pub bad_head : IsHeadFound bytes fields Malformed → IsBadHead (reads ++ Gave piece ∷ [])
     bad_head found = record { none = subst HasNoHead (sym all) found.0; why = go found.1; awaited = (reads, Gave piece, refl, was) }
       where
         go : (RequestOverflows field_limit bytes ⊎ (length bytes ≡ head_limit)) → RequestOverflows field_limit (bytes_of (reads ++ Gave piece ∷ [])) ⊎ (length (bytes_of (reads ++ Gave piece ∷ [])) ≡ head_limit) ⊎ EndWith (reads ++ Gave piece ∷ []) (Gave [])

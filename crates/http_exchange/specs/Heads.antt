@@ -30,7 +30,7 @@ pub record IsHeadAt (bytes : List ℕ) (fields : List HeaderSpan) (spans : Reque
 
 -- what the bytes that came so far are: a head; none, but bytes can follow that make one; or none, and whatever follows
 -- makes one of more fields, or of more bytes
-abbrev pub IsFoundIn : List ℕ → List HeaderSpan → Head → Type 0
-IsFoundIn bytes fields (Complete spans) = IsRequestWithin bytes fields spans × (head : RequestHead) × IsHeadAt bytes fields spans head
-IsFoundIn bytes fields Unfinished = HasNoHead bytes × MayBecomeRequest bytes × (length bytes < head_limit)
-IsFoundIn bytes fields Malformed = HasNoHead bytes × (RequestOverflows field_limit bytes ⊎ (length bytes ≡ head_limit))
+abbrev pub IsHeadFound : List ℕ → List HeaderSpan → Head → Type 0
+IsHeadFound bytes fields (Complete spans) = IsRequestWithin bytes fields spans × (head : RequestHead) × IsHeadAt bytes fields spans head
+IsHeadFound bytes fields Unfinished = HasNoHead bytes × MayBecomeRequest bytes × (length bytes < head_limit)
+IsHeadFound bytes fields Malformed = HasNoHead bytes × (RequestOverflows field_limit bytes ⊎ (length bytes ≡ head_limit))

@@ -7,7 +7,7 @@ use Rattle.httparse.specs.declared.spans.HeaderSpan.{HeaderSpan}
 use Rattle.httparse.specs.declared.spans.RequestSpans.{RequestSpans}
 use Rattle.byte_io.specs.Outcomes as outcome
 use Rattle.byte_io.specs.Outcomes.{Outcome, Gave, bytes_of}
-use Rattle.http_exchange.specs.Heads.{head_limit, field_limit, HasNoHead, IsFoundIn}
+use Rattle.http_exchange.specs.Heads.{head_limit, field_limit, HasNoHead, IsHeadFound}
 use Rattle.http_exchange.specs.declared.heads.Head.TheVariants.{Complete}
 use Rattle.http_exchange.specs.declared.receiving.HeadEnd.{HeadEnd}
 use Rattle.http_exchange.specs.declared.receiving.HeadEnd.TheVariants.{Bad, Failed}
@@ -39,7 +39,7 @@ pub record IsReceived (reads : List Outcome) (buffer : List ℕ) (fields : List 
   pub held : bytes_of reads ≡ take count buffer
   pub buffer_kept : length buffer ≡ head_limit
   pub fields_kept : length fields ≡ field_limit
-  pub found : IsFoundIn (bytes_of reads) fields (Complete spans)
+  pub found : IsHeadFound (bytes_of reads) fields (Complete spans)
   pub awaited : WereAwaited reads
 
 -- what was read has no head within the limits, and none will come of it: no bytes can follow that make one, it is as

@@ -1,6 +1,6 @@
 // The head of a request, in the bytes that came so far (specs/Heads.antt).
 ghost use Rattle.std.specs.Prelude.{◌≡◌, ◌≤◌, length};
-ghost use Rattle.http_exchange.specs.Heads.{IsFoundIn, field_limit, head_limit};
+ghost use Rattle.http_exchange.specs.Heads.{IsHeadFound, field_limit, head_limit};
 
 use httparse::Status;
 use httparse::spans::{HeaderSpan, RequestSpans, parse_request};
@@ -28,7 +28,7 @@ pub fn find_head(bytes: &[u8], fields: &mut [HeaderSpan]) -> Head
     requires limit { length bytes.now ≤ head_limit }
     requires room { length fields.old ≡ field_limit }
     ensures room { length fields.new ≡ field_limit }
-    ensures found { IsFoundIn bytes.now fields.new result }
+    ensures found { IsHeadFound bytes.now fields.new result }
 {
     match parse_request(bytes, fields) {
         Ok(Status::Complete(spans)) => Head::Complete(spans),

@@ -13,7 +13,7 @@ use Rattle.page_places.specs.declared.places.Place.{Place}
 use Rattle.page_places.specs.Changes.{AtTable, HasRows}
 use Rattle.page_changes.specs.declared.finding.NamedRow.{NamedRow}
 use Rattle.page_changes.specs.Causes.{CanFollow}
-use Rattle.page_changes.specs.Named.{CanBeFound, IsFoundIn}
+use Rattle.page_changes.specs.Named.{CanBeFound, IsRowFound}
 use Rattle.page_places.specs.Failures.{FailsToStore}
 use Rattle.plain_tables.specs.declared.errors.StoreError.{StoreError}
 use Rattle.page_places.specs.Places.{indexes_of}
@@ -52,7 +52,7 @@ module _ {D : Type 0} {g : Ghosts D} where
     -- a row of the name, and of the number that is sought, is gone from the table
     pub record HasErased (schema : Schema) (wanted : List Wanted) (roots : List ℕ) (was now : Trees) (table : Table) (name : List ℕ) (sought : Option ℕ) : Type 0 where
       pub row : NamedRow
-      pub found : IsFoundIn name sought (now table.tree) row
+      pub found : IsRowFound name sought (now table.tree) row
       pub rows : HasRows schema wanted roots was now table (without_rowid row.rowid (now table.tree)) new
 
     -- or there is a cause

@@ -50,7 +50,7 @@ pub record CanBeFound (name : List ℕ) (sought : Option ℕ) (rows : List Row) 
   pub in_form : HasOutOfForm rows → ⊥
 
 -- it is the row of the name, and of the number that is sought, among these
-pub record IsFoundIn (name : List ℕ) (sought : Option ℕ) (rows : List Row) (found : NamedRow) : Type 0 where
+pub record IsRowFound (name : List ℕ) (sought : Option ℕ) (rows : List Row) (found : NamedRow) : Type 0 where
   pub there : Has rows (named found.rowid name found.number)
   pub is : IsSought sought found.number
   pub fits : FitsSigned w64 found.rowid
@@ -58,11 +58,11 @@ pub record IsFoundIn (name : List ℕ) (sought : Option ℕ) (rows : List Row) (
 -- the row that was found, or there is none
 abbrev pub IsFound : List ℕ → Option ℕ → List Row → Option NamedRow → Type 0
 IsFound name sought rows None = AreOthers name sought rows
-IsFound name sought rows (Some found) = IsFoundIn name sought rows found
+IsFound name sought rows (Some found) = IsRowFound name sought rows found
 
 -- one of these rows was found
 abbrev pub EndsFound : List ℕ → Option ℕ → List Row → Option NamedRow → Type 0
-EndsFound name sought rows found = (row : NamedRow) × (found ≡ Some row) × IsFoundIn name sought rows row
+EndsFound name sought rows found = (row : NamedRow) × (found ≡ Some row) × IsRowFound name sought rows row
 
 -- whether the first column of a row is this name
 abbrev pub is_of_name : List ℕ → Row → Bool

@@ -24,7 +24,7 @@ use Rattle.store_schema.specs.Tables.{Holds}
 use Rattle.store_schema.proofs.Sound.{sound_of}
 use Rattle.page_runs.specs.Finished.{Finishes, IsUndone}
 use Rattle.page_places.specs.Roots.{AreRoots}
-use Rattle.page_runs.specs.States.{HoldsIn, IsFaithful, IsSettled, Left, ReadsAs, Represents, ShowsTables, held_by, kept, may_leave, state_of}
+use Rattle.page_runs.specs.States.{HoldsTables, IsFaithful, IsSettled, Left, ReadsAs, Represents, ShowsTables, held_by, kept, may_leave, state_of}
 use Rattle.page_runs.specs.declared.store.PageRuns.{PageRuns}
 use Rattle.page_runs.proofs.States.{kept_same, shown_same, still_or_failed}
 
@@ -122,13 +122,14 @@ module _ {D : Type 0} {g : Ghosts D} where
           | inl before ↦ inl (leaves_old left image same sized before.0 before.1 before.2)
           | inr (pages, found, has) ↦
               let there = has now.wanted now.known now.db it.next it.writes in
-              let at : HoldsIn (change m) (page_size mid.file, image) = record {
+              let at : HoldsTables (change m) (page_size mid.file, image) = record {
                 db = it.next;
                 at = record { pages = pages; wanted = now.wanted; schema = schema_two; found = found; ours = there.ours; reads = there.reads; sound = it.holds.contain.sound };
                 holds = it.holds;
+                ordered = ordered m was.holds.0 (sound_of m now.db now.holds) now.ordered;
               } in
               let here = subst (λ n. RecoversAs n image left.1) later.size same in
-              inr (record { t = change m; holds = refl; is = subst (λ n. HoldsIn (change m) (n, left.1)) (sym (sized ∙ later.size)) (held_by (change m) (page_size mid.file) image left.1 here at) })
+              inr (record { t = change m; holds = refl; is = subst (λ n. HoldsTables (change m) (n, left.1)) (sym (sized ∙ later.size)) (held_by (change m) (page_size mid.file) image left.1 here at) })
         ])
         (λ kept. let (before, might, then) = kept.crash image may in inl (leaves_old left image same sized before might then))
 

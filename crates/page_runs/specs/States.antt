@@ -31,18 +31,20 @@ use Rattle.page_runs.specs.declared.store.PageRuns.{PageRuns}
 abbrev pub Left : Type 0
 Left = ℕ × Image
 
--- they hold a database whose tables hold these rows
-pub record HoldsIn (t : Tables) (left : Left) : Type 0 where
+-- they hold a database whose tables hold these rows, those of runs in the order of the runs
+pub record HoldsTables (t : Tables) (left : Left) : Type 0 where
   pub db : Trees
   pub at : HoldsAt left.0 left.1 db
   pub holds : Holds t db
+  pub ordered : AreInOrder t
 
 -- files that stand for others hold the same
-pub held_by : (t : Tables) (size : ℕ) (image left : Image) → RecoversAs size image left → HoldsIn t (size, image) → HoldsIn t (size, left)
+pub held_by : (t : Tables) (size : ℕ) (image left : Image) → RecoversAs size image left → HoldsTables t (size, image) → HoldsTables t (size, left)
 held_by t size image left same is = record {
   db = is.db;
   at = record { pages = is.at.pages; wanted = is.at.wanted; schema = is.at.schema; found = carried size image left same is.at.pages is.at.found; ours = is.at.ours; reads = is.at.reads; sound = is.at.sound };
   holds = is.holds;
+  ordered = is.ordered;
 }
 
 -- the pages as they are read, and as they are committed
@@ -93,12 +95,12 @@ module _ {D : Type 0} {g : Ghosts D} where
     pub holds : Holds t db
     pub ordered : AreInOrder t
 
-  -- it represents the rows that an image of its files holds, those of runs in the order of the runs
+  -- it represents the rows that an image of its files holds
   abbrev pub RepresentsImage : Image → PageRuns D g → Type 0
-  RepresentsImage image store = (t : Tables) → HoldsIn t (page_size store.file, image) → AreInOrder t → Represents t store
+  RepresentsImage image store = (t : Tables) → HoldsTables t (page_size store.file, image) → Represents t store
 
   -- what a crash may leave holds the rows that it represents
-  pub survives : (t : Tables) (store : PageRuns D g) (left : Left) → Represents t store → may_leave store left → HoldsIn t left
+  pub survives : (t : Tables) (store : PageRuns D g) (left : Left) → Represents t store → may_leave store left → HoldsTables t left
   survives t store left was (sized, (image, may, same)) =
       let found = was.rests.behind.left image may in
       let at : HoldsAt (page_size store.file) image was.db = record {
@@ -110,7 +112,7 @@ module _ {D : Type 0} {g : Ghosts D} where
         reads = found.2.reads;
         sound = was.holds.contain.sound;
       } in
-      subst (λ n. HoldsIn t (n, left.1)) (sym sized) (held_by t (page_size store.file) image left.1 same (record { db = was.db; at = at; holds = was.holds }))
+      subst (λ n. HoldsTables t (n, left.1)) (sym sized) (held_by t (page_size store.file) image left.1 same (record { db = was.db; at = at; holds = was.holds; ordered = was.ordered }))
 
   abbrev pub state_of : StoreGhosts (PageRuns D g)
   state_of = record {
@@ -118,7 +120,7 @@ module _ {D : Type 0} {g : Ghosts D} where
     kept = kept;
     is_settled = IsSettled;
     Left = Left;
-    holds = HoldsIn;
+    holds = HoldsTables;
     may_leave = may_leave;
     represents = Represents;
     reads_as = ReadsAs;

@@ -227,7 +227,7 @@ impl<D: Disk> StoreState for PageRuns<D> {
     ghost use Rattle.sqlite_pool.specs.Pool as pools;
     ghost use Rattle.store_schema.proofs.Sound.{sound_of};
     ghost use Rattle.held_lines.proofs.Apart.{apart_held};
-    ghost use Rattle.page_runs.specs.States.{HoldsIn, IsFaithful, IsSettled, Kept as KeptPages, Left, ReadsAs, Represents, faults, kept, may_leave};
+    ghost use Rattle.page_runs.specs.States.{HoldsTables, IsFaithful, IsSettled, Kept as KeptPages, Left, ReadsAs, Represents, faults, kept, may_leave};
 
     ghost Kept = { KeptPages };
 
@@ -237,7 +237,7 @@ impl<D: Disk> StoreState for PageRuns<D> {
 
     ghost Left = { Left };
 
-    ghost holds = { HoldsIn };
+    ghost holds = { HoldsTables };
 
     ghost may_leave = { may_leave };
 

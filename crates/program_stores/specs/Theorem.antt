@@ -8,13 +8,14 @@ use Rattle.histories.specs.Legal.{AreLegal}
 use Rattle.histories.specs.Standard.{IsStandard}
 use Rattle.histories.specs.declared.limits.Limits.{Limits}
 use Rattle.histories.specs.Answered.{HasHistory}
+use Rattle.histories.specs.Left.{LeavesHistory}
 use Rattle.store_paths.specs.Opened.{HoldHistory}
 use Rattle.program_stores.specs.declared.jobs.Done.{Done}
 use Rattle.program_stores.specs.declared.jobs.Job.{Job}
 use Rattle.program_stores.specs.Jobs.{Tells}
 
 module _ {S : Type 0} (g : Ghosts S) where
-  -- under the standard limits steps were taken that are legal after a history, of which this holds, and the store has the history with them
+  -- under the standard limits steps were taken that are legal after a history, of which this holds; the store has the history with them, and a crash leaves rows of it
   pub record Extends (h : History) (Says : Limits → History → Type 0) (store : S) : Type 0 where
     pub limits : Limits
     pub standard : IsStandard limits
@@ -22,6 +23,7 @@ module _ {S : Type 0} (g : Ghosts S) where
     pub legal : AreLegal limits h steps
     pub says : Says limits steps
     pub after : HasHistory g (h ++ steps) store
+    pub left : LeavesHistory g limits (h ++ steps) store
 
   -- files held rows: whichever history these represent, it was extended, if what was written is what was read
   abbrev pub Works : (Tables → Type 0) → (Limits → History → Type 0) → S → Type 0

@@ -22,7 +22,7 @@ use Rattle.byte_io.specs.Imported.{IsReadOf, WereRead}
 use Rattle.file_reading.specs.Seen.{SeenReads, opened}
 use Rattle.file_reading.specs.declared.seen.SeenFile.{SeenFile}
 use Rattle.warehouse.specs.Answers.{is_refused}
-use Rattle.sessions.specs.Sessions.{AreLinesOf, AreReadAs, ArePrinted, ArePrintedInPart, IsLineOf, Prints, Took, WasDone, WasCut, WasPerformed, WasTold, answers_of, commands_of, status_after}
+use Rattle.sessions.specs.Sessions.{AreLinesOf, AreReadAs, ArePrinted, ArePrintedInPart, IsLineOf, Prints, Took, WasCarriedOut, WasCut, WasPerformed, WasTold, answers_of, commands_of, status_after}
 use Rattle.sessions.specs.declared.session.Session.{Session}
 
 -- ---- the status
@@ -144,7 +144,7 @@ module _ {R W S N : Type 0} (g : Ghosts S) where
             (part_on (answers_of w.steps) (t.answer ∷ []) (contents old.out) (contents mid.out) (contents new.out) w.printed (in_part result (t.answer ∷ []) (contents mid.out) (contents new.out) t.printed));
       }
 
-  pub so_far_done : (contents : W → Option (List ℕ)) (list : List Command) (wanted : List Command → Type 0) (old new : Session R W S N) → SoFar contents list old new → wanted list → WasDone g contents wanted old new
+  pub so_far_done : (contents : W → Option (List ℕ)) (list : List Command) (wanted : List Command → Type 0) (old new : Session R W S N) → SoFar contents list old new → wanted list → WasCarriedOut g contents wanted old new
   so_far_done contents list wanted old new w is = record { steps = w.steps; commands = subst wanted (sym w.commands) is; took = w.took; printed = w.printed }
 
 -- ---- commands that are asked for

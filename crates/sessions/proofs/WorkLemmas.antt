@@ -3,7 +3,7 @@ use Rattle.std.proofs.Common.{◌≡◌, ◌∙◌, ℕ, List, [], Option, Resul
 use Rattle.std.specs.Result.{result_and}
 use Rattle.run_stores.specs.declared.states.StoreState.{Ghosts}
 use Rattle.histories.specs.History.{Command}
-use Rattle.sessions.specs.Sessions.{WasRun, answers_of, commands_of, status_after}
+use Rattle.sessions.specs.Sessions.{CarriesOut, answers_of, commands_of, status_after}
 use Rattle.histories.specs.Standard.{IsStandard}
 use Rattle.sessions.specs.Works.{WerePrinted}
 use Rattle.sessions.specs.declared.session.Session.{Session}
@@ -15,7 +15,7 @@ module _ {W S : Type 0} (g : Ghosts S) (contents : W → Option (List ℕ)) (wan
   Worked result from to old new = CameTo g (λ _ steps. WerePrinted contents wanted result from to steps) old new
 
   -- a session that began with status 0
-  pub came_to : {R N E : Type 0} (ended : Result Unit E) (old new : Session R W S N) → IsStandard old.warehouse.limits → old.status ≡ 0 → WasRun g contents wanted ended old new
+  pub came_to : {R N E : Type 0} (ended : Result Unit E) (old new : Session R W S N) → IsStandard old.warehouse.limits → old.status ≡ 0 → CarriesOut g contents wanted ended old new
       → Worked (result_and ended (Ok new.status)) old.out new.out old.warehouse.store new.warehouse.store
   came_to (Ok done) old new standard zero w = record {
     limits = old.warehouse.limits;

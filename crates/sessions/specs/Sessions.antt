@@ -81,7 +81,7 @@ module _ {R W S N : Type 0} (g : Ghosts S) where
     pub status : new.status ≡ status_after old.status (answers_of steps)
 
   -- what was wanted is done: its commands are those of steps that were taken, and their answers were printed
-  pub record WasDone (contents : W → Option (List ℕ)) (wanted : List Command → Type 0) (old new : Session R W S N) : Type 0 where
+  pub record WasCarriedOut (contents : W → Option (List ℕ)) (wanted : List Command → Type 0) (old new : Session R W S N) : Type 0 where
     pub steps : History
     pub commands : wanted (commands_of steps)
     pub took : Took steps old new
@@ -95,8 +95,8 @@ module _ {R W S N : Type 0} (g : Ghosts S) where
     pub took : Took steps old new
     pub printed : ArePrintedInPart (answers_of steps) (contents old.out) (contents new.out)
 
-  abbrev pub WasRun : (W → Option (List ℕ)) → (List Command → Type 0) → {E : Type 0} → Result Unit E → Session R W S N → Session R W S N → Type 0
-  WasRun contents wanted result old new = MatchResult result (λ done. WasDone contents wanted old new) (λ e. WasCut contents wanted old new)
+  abbrev pub CarriesOut : (W → Option (List ℕ)) → (List Command → Type 0) → {E : Type 0} → Result Unit E → Session R W S N → Session R W S N → Type 0
+  CarriesOut contents wanted result old new = MatchResult result (λ done. WasCarriedOut contents wanted old new) (λ e. WasCut contents wanted old new)
 
   -- a command was answered, and the answer printed, whole or in part
   pub record WasTold (contents : W → Option (List ℕ)) (command : Command) {E : Type 0} (result : Result Unit E) (old new : Session R W S N) : Type 0 where

@@ -7,7 +7,7 @@ ghost use Rattle.histories.specs.declared.answers.Answer as given;
 ghost use Rattle.requests.specs.Plain.{plain_request, plain_selection};
 ghost use Rattle.requests.specs.declared.queries.Query.TheVariants.{Csv};
 ghost use Rattle.warehouse.specs.Answered.{IsGivenFor};
-ghost use Rattle.sessions.specs.Sessions.{Prints, Wants, WasPerformed, WasRun, WasTold, path_in, status_after};
+ghost use Rattle.sessions.specs.Sessions.{Prints, Wants, WasPerformed, CarriesOut, WasTold, path_in, status_after};
 
 use crate::commands::WordsCommand;
 use crate::remarks::{Remark, keep_remark};
@@ -174,7 +174,7 @@ impl<'a, R: Files + AllocGlobal, W: Write + Drop, S: RunStore> Session<'a, R, W,
     ) -> io::Result<()>
         ensures limits { self.new.warehouse.limits ≡ self.old.warehouse.limits }
         ensures done { IsFaithful S.StoreState self.new.warehouse.store
-            → WasRun S.StoreState W.contents (Wants R.File.remaining commands.now) result self.old self.new }
+            → CarriesOut S.StoreState W.contents (Wants R.File.remaining commands.now) result self.old self.new }
     {
         for command in commands {
             self.perform(command, remarks)?;

@@ -1,8 +1,6 @@
 -- What the files of a store in pages hold, and what a database over them does.
 use Rattle.std.proofs.Common.{◌≡◌, ◌&&◌, ◌+◌, ℕ, true, IsTrue, Result, Ok, Err, IfOk, refl, sym, ap, subst, ◌∙◌, inl, inr, eqb}
 use Rattle.std.proofs.lemmas.Bool.{and_from, cases_Bool}
-use Rattle.std.proofs.Math.Logic.{∥∥₁_elim}
-use denote.Struct.Props.{props}
 use Rattle.sqlite_disk.specs.Disk.{MoreFaults}
 use Rattle.sqlite_disk.specs.declared.Disk.{Ghosts}
 use Rattle.sqlite_disk.specs.declared.Files.{Files}
@@ -10,12 +8,9 @@ use Rattle.sqlite_disk.specs.declared.tally.Tally.{Tally}
 use Rattle.sqlite_wal.proofs.LogLemmas.{SeenMayStay}
 use Rattle.sqlite_wal.specs.Files.{outcomes}
 use Rattle.sqlite_wal.specs.Recovery.{Image}
-use Rattle.sqlite_wal.specs.PageSize.{IsPageSize}
 use Rattle.sqlite_wal.specs.Reads.{tally_of_files}
-use Rattle.sqlite_pool.proofs.ResealLemmas.{adopts_of}
-use Rattle.sqlite_pool.proofs.StateLemmas.{clean_is, may_leave_is, open_usable, size_is_allowed}
+use Rattle.sqlite_pool.proofs.StateLemmas.{clean_is, may_leave_is, open_usable}
 use Rattle.sqlite_pool.specs.Pool as pools
-use Rattle.sqlite_pool.specs.Stored.{stored_size}
 use Rattle.sqlite_pool.specs.declared.pool.Pool.{Pool}
 use Rattle.sqlite_wal.proofs.StateLemmas.{clean_of}
 use Rattle.sqlite_catalog.proofs.ReadLemmas.{lists_once}
@@ -36,17 +31,12 @@ use Rattle.sql_tables.specs.States.{Rests}
 use Rattle.store_schema.specs.Schema.{schema_two}
 use Rattle.store_schema.specs.Tables.{Holds}
 use Rattle.page_files.specs.Files.{files_of, page_size}
-use Rattle.page_runs.specs.States.{faults, survives, HoldsIn, Represents}
+use Rattle.page_runs.specs.States.{faults, survives, HoldsTables, Represents}
 use Rattle.page_runs.specs.declared.store.PageRuns.{PageRuns}
-use Rattle.store_laws.specs.Databases.{HasCause, HoldsRows, IsOfDisk, LeavesRows}
+use Rattle.store_paths.specs.Shown.{HoldsRows}
+use Rattle.store_openers.proofs.Plain.{held_rows, size_allowed}
+use Rattle.store_laws.specs.Databases.{HasCause, IsOfDisk, LeavesRows}
 use Rattle.store_laws.proofs.Keeping.{stands_holding}
-
-IsPageSize-prop : (n : ℕ) → IsProp (IsPageSize n)
-IsPageSize-prop n = hlevel props
-
--- the pages of an open pool are as long as pages may be
-size_allowed : {D : Type 0} {g : Ghosts D} (it : Pool D g) → IsPageSize (stored_size (pools.state it).page_size)
-size_allowed it = ∥∥₁_elim (size_is_allowed it) (IsPageSize-prop _) (λ x. x)
 
 -- its failures are those of its files
 failures_of : {D : Type 0} {g : Ghosts D} (it : Pool D g) → (pools.state it).faults ≡ g.faults (pools.files it).0 + g.faults (pools.files it).1
@@ -75,42 +65,26 @@ module _ {D : Type 0} {g : Ghosts D} (store : PageRuns D g) (files : Files D) (s
     files_usable = let both = open_usable store.file.pool was.reads.usable in ap (λ (fs : D × D). g.is_usable fs.0 && g.is_usable fs.1) same ∙ and_from _ _ both.0 both.1
 
     -- what a crash leaves of them holds the rows that it represents
-    pub rows_left : (left : Image) → outcomes g files.log files.db left → HoldsIn t (page_size store.file, left)
+    pub rows_left : (left : Image) → outcomes g files.log files.db left → HoldsTables t (page_size store.file, left)
     rows_left left may =
         let pool = store.file.pool in
         let clean = subst (λ b. IsTrue b) (clean_is pool) (clean_of (pools.state pool) was.rests.clean.is_open) in
         let here = subst (λ (fs : D × D). outcomes g fs.0 fs.1 left) same may in
         survives t store (page_size store.file, left) was (refl, (left, may_leave_is pool left clean here, λ pages found. found))
 
-    pub holds_rows : (left : Image) → HoldsIn t (page_size store.file, left) → HoldsRows t left
-    holds_rows left is = record {
-      db = is.db;
-      found = (
-        page_size store.file,
-        size_allowed store.file.pool,
-        record {
-          pages = is.at.pages;
-          wanted = is.at.wanted;
-          schema = is.at.schema;
-          found = adopts_of _ _ _ is.at.found;
-          ours = is.at.ours;
-          reads = is.at.reads;
-          sound = is.at.sound;
-        },
-      );
-      holds = is.holds;
-    }
+    pub holds_rows : (left : Image) → HoldsTables t (page_size store.file, left) → HoldsRows left t
+    holds_rows left is = held_rows t (page_size store.file) left (size_allowed store.file.pool) is
 
     -- and so do they as they are read
-    pub rows_held : SeenMayStay g → HoldsRows t (image_of g files)
+    pub rows_held : SeenMayStay g → HoldsRows (image_of g files) t
     rows_held stays = holds_rows _ (rows_left _ (stays files.log, stays files.db))
 
   -- a database that was opened in files that hold rows stands with them
-  pub rests_opened : (t : Tables) (conn : Held (FileStore D g)) → IsOpened conn → Finds files conn → HoldsRows t (image_of g files) → Rests schema_two (Holds t) (file_state conn)
+  pub rests_opened : (t : Tables) (conn : Held (FileStore D g)) → IsOpened conn → Finds files conn → HoldsRows (image_of g files) t → Rests schema_two (Holds t) (file_state conn)
   rests_opened t conn opened finds held =
       let s = file_state conn in
-      let trees : s.now.trees ≡ held.db = ap (λ (d : Database). d.trees) opened.0.clean ∙ finds.holds held.db held.found in
-      let holds : Holds t s.now.trees = subst (Holds t) (sym trees) held.holds in
+      let trees : s.now.trees ≡ held.0 = ap (λ (d : Database). d.trees) opened.0.clean ∙ finds.holds held.0 held.1 in
+      let holds : Holds t s.now.trees = subst (Holds t) (sym trees) held.2 in
       record {
         schema_is = lists_once (s.now.trees catalog_tree) s.now.schema schema_two (opened.1 opened.0.is_open).0.lists holds.contain.sound.lists;
         holds = holds;
@@ -120,9 +94,9 @@ module _ {D : Type 0} {g : Ghosts D} (store : PageRuns D g) (files : Files D) (s
       }
 
   -- and none is refused for what it holds
-  pub has_cause : (rest : Leftover D g) (e : Error) (t : Tables) → HoldsRows t (image_of g files) → FailsToOpenFiles files rest e → HasCause store rest e
+  pub has_cause : (rest : Leftover D g) (e : Error) (t : Tables) → HoldsRows (image_of g files) t → FailsToOpenFiles files rest e → HasCause store rest e
   has_cause rest e t held (inl memory) = inl memory
-  has_cause rest e t held (inr (inl refused)) = absurd (refused.1 (inl (held.db, held.found)))
+  has_cause rest e t held (inr (inl refused)) = absurd (refused.1 (inl (held.0, held.1)))
   has_cause rest e t held (inr (inr (inl fault))) =
       inr (inl (subst IsOfDisk (sym fault.0) (named_of_disk (tally_of_files g (files.log, files.db)) (tally_left rest)), subst (λ n. MoreFaults n (faults_left rest)) faults_kept fault.1))
   has_cause rest e t held (inr (inr (inr full))) = inr (inr full)
@@ -134,7 +108,7 @@ module _ {D : Type 0} {g : Ghosts D} (store : PageRuns D g) (files : Files D) (s
       let is = rows_left t was _ (stays files.log, stays files.db) in
       let held = rows_held t was stays in
       elim leaves [
-        | inl nothing ↦ absurd (is_something _ held.db held.found nothing.0)
+        | inl nothing ↦ absurd (is_something _ held.0 held.1 nothing.0)
         | inr (there, named, begins, says, kept) ↦ elim ((kept image may).same) [
           | inl before ↦ holds_rows t was image (rows_left t was image before)
           | inr stands ↦ stands_holding t (page_size store.file) _ (size_allowed store.file.pool) is (state_of now).page_size image named says stands
@@ -142,4 +116,4 @@ module _ {D : Type 0} {g : Ghosts D} (store : PageRuns D g) (files : Files D) (s
       ]
   leaves_rows t was stays (left.Store now) leaves = λ db found.
       let held = rows_held t was stays in
-      subst (Holds t) (sym ((leaves db found).1 held.db held.found)) held.holds
+      subst (Holds t) (sym ((leaves db found).1 held.0 held.1)) held.2

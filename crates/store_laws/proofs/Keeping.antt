@@ -11,8 +11,8 @@ use Rattle.sqlite_wal.specs.Recovery as raw
 use Rattle.sqlite_wal.specs.Recovery.{Image, AreWhole, IsIgnored}
 use Rattle.sqlite.specs.Files.{NamesSize, SaysSums}
 use Rattle.plain_tables.specs.Tables.{Tables}
-use Rattle.page_runs.specs.States.{HoldsIn}
-use Rattle.store_laws.specs.Databases.{HoldsRows}
+use Rattle.page_runs.specs.States.{HoldsTables}
+use Rattle.store_paths.specs.Shown.{HoldsRows}
 
 one_again : (p : ℕ) (page : Option (List ℕ)) → p % 16 ≢ 8 → ((bytes : List ℕ) → page ≡ Some bytes → length bytes ≡ p) → option_map (λ bytes. sealed (take p bytes)) page ≡ page
 unfolding sealed
@@ -27,7 +27,7 @@ unfolding resealed
 plain_again p numbers stored plain whole =
     fun_ext λ n. elim (cases_Bool (is_among numbers n)) [ inl among ↦ rw among (one_again p (stored n) plain (whole.sized n)) | inr other ↦ rw other refl ]
 
-module _ (t : Tables) (n : ℕ) (old : Image) (valid : IsPageSize (stored_size n)) (is : HoldsIn t (n, old)) where
+module _ (t : Tables) (n : ℕ) (old : Image) (valid : IsPageSize (stored_size n)) (is : HoldsTables t (n, old)) where
   large : 504 ≤ n
   large = let few : reserved n ≤ 8 = grind arith in omega (arith, valid.0)
 
@@ -44,14 +44,14 @@ module _ (t : Tables) (n : ℕ) (old : Image) (valid : IsPageSize (stored_size n
   ]
 
   -- files that stand for pages of this database hold the same rows
-  holds_there : (new : Image) → Adopts n new is.at.pages → HoldsRows t new
-  holds_there new found = record {
-    db = is.db;
-    found = (n, valid, record { pages = is.at.pages; wanted = is.at.wanted; schema = is.at.schema; found = found; ours = is.at.ours; reads = is.at.reads; sound = is.at.sound });
-    holds = is.holds;
-  }
+  holds_there : (new : Image) → Adopts n new is.at.pages → HoldsRows new t
+  holds_there new found = (
+    is.db,
+    (n, valid, record { pages = is.at.pages; wanted = is.at.wanted; schema = is.at.schema; found = found; ours = is.at.ours; reads = is.at.reads; sound = is.at.sound }),
+    is.holds,
+  )
 
-  from_stored : (new : Image) → raw.Recovers (stored_size n) new is.at.found.stored → HoldsRows t new
+  from_stored : (new : Image) → raw.Recovers (stored_size n) new is.at.found.stored → HoldsRows new t
   from_stored new now =
       holds_there new (adopts_of n new is.at.pages (record {
         stored = is.at.found.stored;
@@ -72,7 +72,7 @@ module _ (t : Tables) (n : ℕ) (old : Image) (valid : IsPageSize (stored_size n
       omega (arith, same, eight, too)
 
   -- files that stand for these hold the same rows
-  pub stands_holding : (p : ℕ) (new : Image) → NamesSize old (stored_size p) → (IsTrue (is_summed p) → SaysSums (stored_size p) old) → StandsAs p old new → HoldsRows t new
+  pub stands_holding : (p : ℕ) (new : Image) → NamesSize old (stored_size p) → (IsTrue (is_summed p) → SaysSums (stored_size p) old) → StandsAs p old new → HoldsRows new t
   stands_holding p new named says stands =
       let same = same_size (stored_size p) named in
       let stored = is.at.found.stored in

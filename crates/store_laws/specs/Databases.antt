@@ -1,6 +1,6 @@
 -- What a database holds that takes up the files of a store in pages, and why it does not.
 use Rattle.std.specs.Prelude.{◌≡◌, ◌⊎◌}
-use Rattle.sqlite.specs.Files.{file_state, faults_left, HoldsDatabase, IsCleanLeft, IsFullLeft}
+use Rattle.sqlite.specs.Files.{file_state, faults_left, IsCleanLeft, IsFullLeft}
 use Rattle.sqlite.specs.Held.{Held}
 use Rattle.sqlite.specs.State.{HasCleanDisk, store_error}
 use Rattle.sqlite.specs.declared.error.Error.{Error}
@@ -19,14 +19,9 @@ use Rattle.plain_tables.specs.Tables.{Tables}
 use Rattle.sql_tables.specs.States.{Rests}
 use Rattle.store_schema.specs.Schema.{schema_two}
 use Rattle.store_schema.specs.Tables.{Holds}
+use Rattle.store_paths.specs.Shown.{HoldsRows}
 use Rattle.page_runs.specs.States.{faults, Represents}
 use Rattle.page_runs.specs.declared.store.PageRuns.{PageRuns}
-
--- the files hold a database whose tables hold these rows
-pub record HoldsRows (t : Tables) (image : Image) : Type 0 where
-  pub db : Trees
-  pub found : HoldsDatabase image db
-  pub holds : Holds t db
 
 -- a failure of a disk: of a call, of a read whose bytes had changed, or for want of room
 abbrev pub IsOfDisk : Error → Type 0
@@ -48,8 +43,8 @@ module _ {D : Type 0} {g : Ghosts D} where
 
   -- whatever a crash leaves then, it holds these rows
   abbrev pub LeavesRows : Tables → Leftover D g → Type 0
-  LeavesRows t (left.Files now) = (image : Image) → outcomes g now.log now.db image → HoldsRows t image
-  LeavesRows t (left.Unopened now) = (image : Image) → (state_of now).may_leave image → HoldsRows t image
+  LeavesRows t (left.Files now) = (image : Image) → outcomes g now.log now.db image → HoldsRows image t
+  LeavesRows t (left.Unopened now) = (image : Image) → (state_of now).may_leave image → HoldsRows image t
   LeavesRows t (left.Store now) = (db : Trees) → recovers now db → Holds t db
 
   -- a database that is not opened has lost nothing

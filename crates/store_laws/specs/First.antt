@@ -13,9 +13,9 @@ use Rattle.histories.specs.Marks.{AreBy}
 use Rattle.histories.specs.Representation.{TablesRepresent}
 
 -- tables whose lines, as a version holds them, tell a history
-pub record AgreesBy (HoldsIn : Tables → Trees → Type 0) (h : History) (db : Trees) : Type 0 where
+pub record AgreesBy (HoldsAs : Tables → Trees → Type 0) (h : History) (db : Trees) : Type 0 where
   pub t : Tables
-  pub holds : HoldsIn t db
+  pub holds : HoldsAs t db
   pub agrees : TablesRepresent h t
 
 -- between calls tables of version 1 do, and its imports are by the first grammar

@@ -10,5 +10,8 @@ mod looking;
 mod refusing;
 // What opens the store at a path, over any files.
 mod path_openers;
+// Laws: what a store leaves, the next opening finds.
+mod laws;
 
+pub use laws::stores_leave_what_is_opened;
 pub use path_openers::PathOpener;

@@ -2,7 +2,7 @@
 ghost use Rattle.std.specs.Prelude.{◌≡◌, IfOk};
 ghost use Rattle.page_runs.specs.States.{state_of};
 ghost use Rattle.store_paths.specs.Opened.{IsStoreOf};
-ghost use Rattle.store_paths.specs.Shown.{HoldsRows};
+ghost use Rattle.store_paths.specs.Shown.{HoldsInOrder};
 
 use crate::opening::{changed_by_another, may_be_changed_in, store_in};
 use crate::refusing::{PAGES_TO_READ, unread};
@@ -34,7 +34,7 @@ pub(crate) fn beside<F: FileOpener, M: StoreMaker<F>>(
     rt: &HostRuntime,
     path: &str,
 ) -> Result<(PageRuns<F::File>, Standing), Unread>
-    ensures { IfOk result (λ opened. IsStoreOf state_of (HoldsRows F.FileOpener.image) opened.0) }
+    ensures { IfOk result (λ opened. IsStoreOf state_of (HoldsInOrder F.FileOpener.image) opened.0) }
 {
     let Ok(options) = options_for(rt, PAGES_TO_READ) else {
         return Err(Unread::Unfit);

@@ -1,5 +1,5 @@
 // What opens the store at a path, over any files.
-ghost use Rattle.store_paths.specs.Shown.{HoldsRows};
+ghost use Rattle.store_paths.specs.Shown.{HoldsInOrder};
 
 use crate::looking::{beside, look_beside};
 use crate::opening::{store_in, store_to_change_in};
@@ -23,7 +23,7 @@ pub struct PathOpener<F: FileOpener, M: StoreMaker<F>> {
 }
 
 impl<F: FileOpener, M: StoreMaker<F>> Opener<PageRuns<F::File>> for PathOpener<F, M> {
-    ghost held = { HoldsRows F.FileOpener.image };
+    ghost held = { HoldsInOrder F.FileOpener.image };
 
     fn make_missing(rt: &HostRuntime, path: &str, patience: Patience) -> Result<bool, NotOpened> {
         M::make_missing(rt, path, patience)

@@ -8,11 +8,16 @@ use Rattle.sqlite_wal.specs.Reads.{AreClean}
 use Rattle.sqlite_trees.specs.Tree.{Trees}
 use Rattle.sqlite_wal.specs.Recovery.{Image}
 use Rattle.plain_tables.specs.Tables.{Tables}
+use Rattle.run_stores.specs.Order.{AreInOrder}
 use Rattle.store_schema.specs.Tables.{Holds}
 
 -- an image of files is a database whose tables hold these rows
 abbrev pub HoldsRows : Image → Tables → Type 0
 HoldsRows image t = (db : Trees) × HoldsDatabase image db × Holds t db
+
+-- those of runs in the order of the runs, as the pages are read
+abbrev pub HoldsInOrder : Image → Tables → Type 0
+HoldsInOrder image t = HoldsRows image t × AreInOrder t
 
 -- files can be used, and show this, where no wrong answer was taken as true
 pub record ShowImage {D : Type 0} (g : Ghosts D) (image : Image) (files : Files D) : Type 0 where

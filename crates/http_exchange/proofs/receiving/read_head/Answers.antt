@@ -2,7 +2,7 @@ use Rattle.std.proofs.Common.{◌≡◌, ◌+◌, ◌-◌, ◌<◌, ◌≤◌, [
 use Rattle.std.proofs.lemmas.List.{length-take-le}
 use Rattle.byte_io.specs.Outcomes.{Gave, Failed}
 use Rattle.byte_io.proofs.Outcomes.{come_on, bytes_on}
-use Rattle.http_exchange.specs.Heads.{IsFoundIn}
+use Rattle.http_exchange.specs.Heads.{IsHeadFound}
 use Rattle.http_exchange.specs.declared.heads.Head.TheVariants.{Complete}
 use Rattle.http_exchange.proofs.Steps.{filled_on, same_room, room_left, left_len}
 use Rattle.http_exchange.proofs.HeadLemmas.{await_first, cut_off, ended_early, await_on, bad_head}
@@ -43,7 +43,7 @@ returns-in-Complete g c =
         held = all;
         buffer_kept = same ∙ was.5;
         fields_kept = c.in-Complete.ensures.room;
-        found = subst (λ l. IsFoundIn l c.find_head.new.fields (Complete c.in-Complete.spans)) (sym all) c.in-Complete.ensures.found;
+        found = subst (λ l. IsHeadFound l c.find_head.new.fields (Complete c.in-Complete.spans)) (sym all) c.in-Complete.ensures.found;
         awaited = (was.0, Gave piece, refl, was.3);
       },
     )

@@ -6,7 +6,7 @@ use Rattle.page_files.proofs.Steps.{writes_after}
 use Rattle.page_places.specs.Changes.{HasRows}
 use Rattle.page_places.proofs.Outcomes.{table_shows}
 use Rattle.page_places.proofs.Failing.{row_fails, store_fails_later}
-use Rattle.page_changes.specs.Named.{CanBeFound, IsFound, IsFoundIn}
+use Rattle.page_changes.specs.Named.{CanBeFound, IsFound, IsRowFound}
 use Rattle.page_changes.proofs.Failing.{not_sought}
 use Rattle.page_changes.proofs.rows.erase_named.Goals as goal
 
@@ -19,7 +19,7 @@ returns-in-Ok-clause-done g c faithful = λ schema wanted roots was now table sh
     let found = c.in_ok-row.ensures.found before (now table.tree) (record { wanted = wanted; t = table.tree; shows = at.0; rows_are = at.1 }) in
     let row = c.in-Some.row in
     let here = subst (IsFound c.as_bytes.result.now c.args.number (now table.tree)) c.in-Some.is found in
-    let there = subst (λ n. IsFoundIn n c.args.number (now table.tree) row) c.as_bytes.ensures.value here in
+    let there = subst (λ n. IsRowFound n c.args.number (now table.tree) row) c.as_bytes.ensures.value here in
     let w = writes_after old mid c.find_named.ensures.reads before c.in_ok-row.ensures.usable shows.writes in
     let h = c.in-Ok.ensures.done faithful schema wanted roots was now table (record { writes = w; placed = shows.placed; indexed = shows.indexed }) tt in
     record { row = row; found = there; rows = subst (λ z. HasRows schema wanted roots was now table (without_rowid z (now table.tree)) c.erase.new.file) (to_z-of_z there.fits) h }

@@ -15,7 +15,7 @@ use Rattle.store_schema.specs.Tables.{number, number_or_null}
 use Rattle.page_places.proofs.OneLine.{baseline_put}
 use Rattle.page_places.proofs.Failing.{memory_fails, row_fails, store_fails_later}
 use Rattle.page_changes.specs.Causes.{CanPutBaseline}
-use Rattle.page_changes.specs.Named.{IsFound, IsFoundIn}
+use Rattle.page_changes.specs.Named.{IsFound, IsRowFound}
 use Rattle.page_changes.proofs.Failing.{not_sought}
 use Rattle.page_changes.proofs.Places.{groups_at, groups_shown}
 use Rattle.page_changes.proofs.rows.put_baseline.Goals as goal
@@ -32,7 +32,7 @@ returns-in-Ok-clause-done g c faithful = λ wanted known was now t writes holds 
     let found = c.in_ok-row.ensures.found before (now 19) (record { wanted = wanted; t = 19; shows = at.0; rows_are = at.1 }) in
     let row = c.in-Some.row in
     let here = subst (IsFound c.as_bytes.result.now None (now 19)) c.in-Some.is found in
-    let there = subst (λ n. IsFoundIn n None (now 19) row) c.as_bytes.ensures.value here in
+    let there = subst (λ n. IsRowFound n None (now 19) row) c.as_bytes.ensures.value here in
     let same : to_z w64 (of_z w64 row.rowid) ≡ row.rowid = to_z-of_z there.fits in
     let keeps : KeepsEntries row.rowid (Text name ∷ number run ∷ []) (now 19) (indexes_of schema_two grp_at) = (Text name ∷ number_or_null row.number ∷ [], there.there, ((refl, tt), tt)) in
     let w = writes_after old mid c.find_named.ensures.reads before c.in_ok-row.ensures.usable writes in
@@ -85,7 +85,7 @@ returns-clause-done g c faithful = λ wanted known was now t writes holds are he
     let found = c.in_ok-row.ensures.found before (now 19) (record { wanted = wanted; t = 19; shows = at.0; rows_are = at.1 }) in
     let row = c.in-Some.row in
     let here = subst (IsFound c.as_bytes.result.now None (now 19)) c.in-Some.is found in
-    let there = subst (λ n. IsFoundIn n None (now 19) row) c.as_bytes.ensures.value here in
+    let there = subst (λ n. IsRowFound n None (now 19) row) c.as_bytes.ensures.value here in
     let same : to_z w64 (of_z w64 row.rowid) ≡ row.rowid = to_z-of_z there.fits in
     let keeps : KeepsEntries row.rowid (Text name ∷ number run ∷ []) (now 19) (indexes_of schema_two grp_at) = (Text name ∷ number_or_null row.number ∷ [], there.there, ((refl, tt), tt)) in
     let w = writes_after old mid c.find_named.ensures.reads before c.in_ok-row.ensures.usable writes in

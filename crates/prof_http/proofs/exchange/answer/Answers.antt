@@ -1,6 +1,6 @@
 use Rattle.std.proofs.Common.{◌≤◌, length, take, drop, inl, sym, subst, arith}
 use Rattle.std.proofs.lemmas.List.{length-take}
-use Rattle.http_exchange.specs.Heads.{BeginsWith, IsFoundIn, head_limit}
+use Rattle.http_exchange.specs.Heads.{BeginsWith, IsHeadFound, head_limit}
 use Rattle.http_exchange.specs.declared.heads.Head.TheVariants.{Complete}
 use Rattle.prof_http.proofs.Heads.{begins_at}
 use Rattle.prof_http.proofs.exchange.answer.Goals as goal
@@ -13,7 +13,7 @@ returns-in-Ok-clause-exchanged g c =
     let filled = c.in-Ok.filled in
     let front = take filled c.read_head.new.buffer in
     let fields = c.read_head.new.fields in
-    let found = subst (λ b. IsFoundIn b fields (Complete spans)) got.held got.found in
+    let found = subst (λ b. IsHeadFound b fields (Complete spans)) got.held got.found in
     let head = found.1 in
     let long = length-take filled c.read_head.new.buffer in
     let short : length front ≤ head_limit = omega (arith, long, got.within) in

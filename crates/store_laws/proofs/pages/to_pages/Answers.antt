@@ -15,7 +15,7 @@ taken g c =
     all_three c.open.result
     (λ store honest sized represents faithful t holds order.
     let copied = c.in-Ok.ensures.copied (honest faithful) in
-    ∥∥₁_map copied.seen.both (λ held. represents faithful t (held_plainly t (page_size store.file) _ _ (sized faithful) holds held) order))
+    ∥∥₁_map copied.seen.both (λ held. represents faithful t (held_plainly t (page_size store.file) _ _ (sized faithful) holds held order)))
     c.open.ensures.honest c.open.ensures.size c.open.ensures.represents
 
 pub returns-in-Ok-clause-committed : goal.returns-in-Ok-clause-committed

@@ -14,7 +14,7 @@ use Rattle.page_lists.specs.Sizes.{IsSizeOf}
 use Rattle.page_runs.proofs.store.PageRuns.open.Goals as goal
 
 pub returns-clause-represents : goal.returns-clause-represents
-returns-clause-represents g c = λ faithful t is order.
+returns-clause-represents g c = λ faithful t is.
     let reads = c.in_ok-file.ensures.reads in
     let size = reads.keeps.stays.size in
     let opened = c.in_ok-opened.opened in
@@ -23,7 +23,7 @@ returns-clause-represents g c = λ faithful t is order.
     let has : Has (page_size opened) is.at.wanted is.db is.at.pages = subst (λ n. Has n is.at.wanted is.db is.at.pages) size (record { ours = is.at.ours; reads = is.at.reads }) in
     let rests = c.in_ok-opened.ensures.rests (reads.keeps.stays.clean faithful) is.at.wanted is.db is.at.pages (subst (λ n. Recovers n (seen_image g.D.Disk c.args.files.log c.args.files.db) is.at.pages) size is.at.found) has in
     let (roots, listed) = c.in_ok-file.ensures.opened faithful t is.db _ (store_resting opened t is.db _ _ rests is.holds) in
-    represents_as t store is.db _ (rests_after opened c.in_ok-file.file reads faithful c.in_ok-file.ensures.usable rests) is.holds order roots listed (c.new-2.ensures.nothing t) c.in_ok-file.ensures.usable
+    represents_as t store is.db _ (rests_after opened c.in_ok-file.file reads faithful c.in_ok-file.ensures.usable rests) is.holds is.ordered roots listed (c.new-2.ensures.nothing t) c.in_ok-file.ensures.usable
 
 pub returns-clause-crash : goal.returns-clause-crash
 returns-clause-crash g c =

@@ -3,7 +3,7 @@ use Rattle.std.proofs.lemmas.List.{at_drop_all}
 use Rattle.std.proofs.lemmas.Result.{err_from_is_err_and}
 use Rattle.byte_io.specs.Imported.{WereRead}
 use Rattle.requests.specs.Plain.{plain_request}
-use Rattle.sessions.specs.Sessions.{AreReadAs, Wants, WasRun}
+use Rattle.sessions.specs.Sessions.{AreReadAs, Wants, CarriesOut}
 use Rattle.sessions.proofs.SessionLemmas.{none_read, took_clean, so_far_none, so_far_done, fits_on, fits_cut}
 use Rattle.sessions.proofs.session.Session.run.Goals as goal
 
@@ -36,7 +36,7 @@ returns-in_err-perform-clause-done g c clean =
     let p = err_from_is_err_and c.from_residual.result c.from_residual.ensures.1 in
     let t = c.perform.ensures.answered clean in
     let it = i.so_far (took_clean g.S.StoreState _ c.loop-command.self c.perform.new.self t.2.took clean) in
-    subst (λ r. WasRun g.S.StoreState g.W.Write.contents (Wants g.R.File.Read.remaining commands) r c.args.self.now c.perform.new.self) (sym p.1)
+    subst (λ r. CarriesOut g.S.StoreState g.W.Write.contents (Wants g.R.File.Read.remaining commands) r c.args.self.now c.perform.new.self) (sym p.1)
     (fits_cut (WereRead g.R.File.Read.remaining) plain_request commands g.S.StoreState g.W.Write.contents at _ it.0 c.args.self.now c.loop-command.self c.perform.new.self c.perform.result (none_read g.R.File.Read.remaining) low i.limits it.1 it.2 t)
 
 pub returns-clause-done : goal.returns-clause-done
