@@ -26,7 +26,7 @@ pub trait Host {
     type Shared: Disk + Drop;
 
     /// The files of the database at a path, which are made if they are missing, and locked: another who has them open is
-    /// waited for.
+    /// waited for. No clause says which error comes, here and below: of the files at a path the checker knows nothing.
     fn lock(
         rt: &HostRuntime,
         path: &str,

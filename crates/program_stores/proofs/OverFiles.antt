@@ -10,7 +10,7 @@ use Rattle.histories.proofs.Left.{left_after, left_standing}
 use Rattle.histories.specs.declared.limits.Limits.{Limits}
 use Rattle.warehouse.specs.Taken.{CameTo}
 use Rattle.warehouse.proofs.Taken.{taken_clean}
-use Rattle.store_paths.specs.Opened.{IsStoreOf}
+use Rattle.store_paths.specs.Opened.{RepresentsHeld}
 use Rattle.program_stores.specs.Theorem.{Works}
 use Rattle.program_stores.specs.Jobs.{Tells}
 use Rattle.program_stores.specs.declared.jobs.Job.{Job}
@@ -19,7 +19,7 @@ use Rattle.program_stores.specs.declared.jobs.Job.TheVariants as jobs
 module _ {S : Type 0} (g : Ghosts S) (held : Tables → Type 0) (Says : Limits → History → Type 0) where
   -- over a store that was opened in the files, of which what stands survives a crash
   pub works_over : ((t : Tables) (store : S) (left : g.Left) → Represents g t store → g.may_leave store left → g.holds t left) → (old new : S)
-      → IsStoreOf g held old → (IsFaithful g new → CameTo g Says old new) → Works g held Says new
+      → RepresentsHeld g held old → (IsFaithful g new → CameTo g Says old new) → Works g held Says new
   works_over survives old new is came faithful =
       let it = came faithful in
       let opened = is (taken_clean g it.limits it.steps old new it.taken faithful) in
@@ -75,7 +75,7 @@ module _ {F V W : Type 0} (remaining : F → Option (List ℕ)) (contents : W �
   -- so of a job over a store that was opened in the files, which printed through it
   pub done_through : {S E : Type 0} (g : Ghosts S) → ((t : Tables) (store : S) (left : g.Left) → Represents g t store → g.may_leave store left → g.holds t left)
       → (held : Tables → Type 0) (job : Job) (start fresh : Option (List ℕ)) (result : Result ℕ E) (out : V) (to : W) (old new : S)
-      → start ≡ fresh → to ≡ inner out → IsStoreOf g held old → (IsFaithful g new → CameTo g (Tells remaining (λ v. contents (inner v)) g job start result out) old new)
+      → start ≡ fresh → to ≡ inner out → RepresentsHeld g held old → (IsFaithful g new → CameTo g (Tells remaining (λ v. contents (inner v)) g job start result out) old new)
       → Works g held (Tells remaining contents g job fresh result to) new
   done_through g survives held job start fresh result out to old new begins ends is came =
       works_as g held (Tells remaining (λ v. contents (inner v)) g job start result out) (Tells remaining contents g job fresh result to) new

@@ -1,6 +1,6 @@
 // Does a job over the store at a path beside others, who may write it meanwhile.
 ghost use Rattle.std.specs.Prelude.{IfOk};
-ghost use Rattle.store_paths.specs.Opened.{IsStoreOf};
+ghost use Rattle.store_paths.specs.Opened.{RepresentsHeld};
 ghost use Rattle.program_stores.specs.Theorem.{WasDone};
 
 use crate::jobs::{Done, Job, Outputs};
@@ -39,7 +39,7 @@ fn done_beside<'a, S: RunStore + Drop, P: Opener<S>, O: Outputs>(
     standing: Standing,
     job: Job<'_, 'a>,
 ) -> Result<Done<S, O::Out>, Unread>
-    ensures { IsStoreOf S.StoreState P.Opener.held store
+    ensures { RepresentsHeld S.StoreState P.Opener.held store
         → IfOk result (WasDone ⟦<File as Read>⟧.remaining O.Out.contents S.StoreState P.Opener.held job.entry O.Outputs.fresh) }
 {
     let mut remarks = Vec::new(rt.alloc());

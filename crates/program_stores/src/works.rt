@@ -1,6 +1,6 @@
 // A job is done over the store at a path, which is made, migrated or refused first.
 ghost use Rattle.std.specs.Prelude.{IfOk};
-ghost use Rattle.store_paths.specs.Opened.{IsStoreOf};
+ghost use Rattle.store_paths.specs.Opened.{RepresentsHeld};
 ghost use Rattle.program_stores.specs.Theorem.{WasDone};
 
 use crate::beside::work_beside;
@@ -22,7 +22,7 @@ fn store_to_change_at<S: RunStore + Drop, P: Opener<S>>(
     patience: Patience,
     cells_to_keep: usize,
 ) -> Result<S, NotOpened>
-    ensures { IfOk result (IsStoreOf S.StoreState P.Opener.held) }
+    ensures { IfOk result (RepresentsHeld S.StoreState P.Opener.held) }
 {
     match P::to_change(rt, db, patience, cells_to_keep) {
         Err(
@@ -45,7 +45,7 @@ fn done_alone<'a, S: RunStore + Drop, P: Opener<S>, O: Outputs>(
     store: S,
     job: Job<'_, 'a>,
 ) -> Done<S, O::Out>
-    ensures { IsStoreOf S.StoreState P.Opener.held store
+    ensures { RepresentsHeld S.StoreState P.Opener.held store
         → WasDone ⟦<File as Read>⟧.remaining O.Out.contents S.StoreState P.Opener.held job.entry O.Outputs.fresh result }
 {
     let mut remarks = Vec::new(rt.alloc());

@@ -1,7 +1,7 @@
 // The store at a path, read beside others, and why one that is not to be changed is refused.
 ghost use Rattle.std.specs.Prelude.{◌≡◌, IfOk};
 ghost use Rattle.page_runs.specs.States.{state_of};
-ghost use Rattle.store_paths.specs.Opened.{IsStoreOf};
+ghost use Rattle.store_paths.specs.Opened.{RepresentsHeld};
 ghost use Rattle.store_paths.specs.Shown.{HoldsInOrder};
 
 use crate::opening::{changed_by_another, may_be_changed_in, store_in};
@@ -34,7 +34,7 @@ pub(crate) fn beside<F: FileOpener, M: StoreMaker<F>>(
     rt: &HostRuntime,
     path: &str,
 ) -> Result<(PageRuns<F::File>, Standing), Unread>
-    ensures { IfOk result (λ opened. IsStoreOf state_of (HoldsInOrder F.FileOpener.image) opened.0) }
+    ensures { IfOk result (λ opened. RepresentsHeld state_of (HoldsInOrder F.FileOpener.image) opened.0) }
 {
     let Ok(options) = options_for(rt, PAGES_TO_READ) else {
         return Err(Unread::Unfit);

@@ -4,7 +4,7 @@ ghost use Rattle.sqlite_wal.specs.Recovery.{Image};
 ghost use Rattle.store_paths.specs.declared.errors.Cause.TheVariants as causes;
 ghost use Rattle.store_schema.specs.declared.errors.OpenError.TheVariants as ends;
 ghost use Rattle.store_paths.specs.Shown.{HoldsInOrder, ShowImage};
-ghost use Rattle.store_paths.specs.Opened.{IsStoreOf};
+ghost use Rattle.store_paths.specs.Opened.{RepresentsHeld};
 ghost use Rattle.page_runs.specs.States.{state_of};
 
 use page_runs::PageRuns;
@@ -25,7 +25,7 @@ pub(crate) fn store_in<D: Disk + Drop>(
 ) -> Result<PageRuns<D>, StoreError>
     requires log { IsTrue (D.Disk.is_usable files.log) }
     requires db { IsTrue (D.Disk.is_usable files.db) }
-    ensures { (image : Image) → ShowImage D.Disk image files → IfOk result (IsStoreOf state_of (HoldsInOrder image)) }
+    ensures { (image : Image) → ShowImage D.Disk image files → IfOk result (RepresentsHeld state_of (HoldsInOrder image)) }
 {
     PageRuns::open(alloc, files, options, cells_to_keep)
 }
@@ -50,7 +50,7 @@ pub(crate) fn store_to_change_in<D: Disk + Drop>(
 ) -> Result<PageRuns<D>, NotOpened>
     requires log { IsTrue (D.Disk.is_usable files.log) }
     requires db { IsTrue (D.Disk.is_usable files.db) }
-    ensures { (image : Image) → ShowImage D.Disk image files → IfOk result (IsStoreOf state_of (HoldsInOrder image)) }
+    ensures { (image : Image) → ShowImage D.Disk image files → IfOk result (RepresentsHeld state_of (HoldsInOrder image)) }
 {
     let store = store_in(alloc, files, options, cells_to_keep)?;
     if store.may_be_changed() {

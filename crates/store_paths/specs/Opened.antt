@@ -21,5 +21,5 @@ abbrev pub HoldLeft : (Tables → Type 0) → Limits → History → Type 0
 HoldLeft held limits h = (told : History) × MayBecome limits h told × HoldHistory held told
 
 -- a store over files that hold such rows: whichever history these represent, it represents it, if so far what was written is what was read
-abbrev pub IsStoreOf : {S : Type 0} → Ghosts S → (Tables → Type 0) → S → Type 0
-IsStoreOf g held store = IsFaithful g store → (h : History) → HoldHistory held h → RepresentsHistory g h store
+abbrev pub RepresentsHeld : {S : Type 0} → Ghosts S → (Tables → Type 0) → S → Type 0
+RepresentsHeld g held store = IsFaithful g store → (h : History) → HoldHistory held h → RepresentsHistory g h store

@@ -2,7 +2,7 @@
 ghost use Rattle.std.specs.Prelude.{IfOk};
 ghost use Rattle.std.specs.Result.{is_ok};
 ghost use Rattle.run_stores.specs.Calls.{Asks};
-ghost use Rattle.store_paths.specs.Opened.{IsStoreOf};
+ghost use Rattle.store_paths.specs.Opened.{RepresentsHeld};
 
 use crate::errors::NotOpened;
 use crate::opener::Unread;
@@ -35,11 +35,11 @@ pub trait Opener<S: RunStore + Drop> {
 
     /// The store, to be read beside others, and what its files were.
     fn beside(rt: &HostRuntime, path: &str) -> Result<(S, Standing), Unread>
-        ensures { IfOk result (λ opened. IsStoreOf S.StoreState held opened.0) };
+        ensures { IfOk result (λ opened. RepresentsHeld S.StoreState held opened.0) };
 
     /// The store, to be read with no other beside. No byte of its files is written.
     fn alone(rt: &HostRuntime, path: &str, patience: Patience) -> Result<S, NotOpened>
-        ensures { IfOk result (IsStoreOf S.StoreState held) };
+        ensures { IfOk result (RepresentsHeld S.StoreState held) };
 
     /// The store, to be read and changed with no other beside, which keeps so many cells of small runs in memory.
     /// `WrongSchema` where another program has put an index or a trigger on its tables; `Memory`; `Store` where its files are
@@ -50,12 +50,13 @@ pub trait Opener<S: RunStore + Drop> {
         patience: Patience,
         cells_to_keep: usize,
     ) -> Result<S, NotOpened>
-        ensures { IfOk result (IsStoreOf S.StoreState held) };
+        ensures { IfOk result (RepresentsHeld S.StoreState held) };
 
     /// Copies what was committed from the log into the file. Errors: `Store`, and `Memory`.
     fn checkpoint(store: &mut S) -> Result<(), StoreError>
         ensures { Asks S.StoreState (is_ok result) store.old store.new };
 
-    /// Closes a store. Whether a write to its files failed since the disk was full.
+    /// Closes a store. Whether a write to its files failed since the disk was full. No guarantee: of a full disk the checker knows
+    /// nothing.
     fn has_met_full_disk(store: S) -> bool;
 }

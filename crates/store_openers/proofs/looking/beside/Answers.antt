@@ -1,6 +1,6 @@
 use Rattle.std.proofs.Common.{◌≡◌, Result, Ok, Err, IfOk, subst, sym}
 use Rattle.page_runs.specs.States.{state_of}
-use Rattle.store_paths.specs.Opened.{IsStoreOf}
+use Rattle.store_paths.specs.Opened.{RepresentsHeld}
 use Rattle.store_paths.specs.Shown.{HoldsInOrder}
 use Rattle.store_openers.proofs.looking.beside.Goals as goal
 
@@ -11,4 +11,4 @@ kept P x (Err e) is p = tt
 
 pub returns-in-Ok-store_in : goal.returns-in-Ok-store_in
 returns-in-Ok-store_in g c =
-    kept (IsStoreOf state_of (HoldsInOrder g.F.FileOpener.image)) c.in-Ok-store_in.store c.kept_beside.result c.kept_beside.ensures (c.in-Ok-store_in.ensures g.F.FileOpener.image c.in_ok-files.ensures)
+    kept (RepresentsHeld state_of (HoldsInOrder g.F.FileOpener.image)) c.in-Ok-store_in.store c.kept_beside.result c.kept_beside.ensures (c.in-Ok-store_in.ensures g.F.FileOpener.image c.in_ok-files.ensures)
