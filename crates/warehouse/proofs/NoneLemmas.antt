@@ -8,7 +8,7 @@ use Rattle.histories.specs.declared.limits.Limits.{Limits}
 use Rattle.requests.specs.Plain.{plain_command}
 use Rattle.requests.specs.declared.commands.Command.TheVariants as input
 use Rattle.warehouse.specs.Answered.{Lent, ReadsNone, Says}
-use Rattle.warehouse.specs.FromTables.{IsFoundIn, IsFoundOf, IsFoundOver}
+use Rattle.warehouse.specs.FromTables.{IsFoundWithSource, IsFoundOf, IsFoundOver}
 
 module _ {R : Type 0} (reads : R → Outcome → R → Type 0) where
   -- they say the command, with no reads
@@ -24,7 +24,7 @@ module _ {R : Type 0} (reads : R → Outcome → R → Type 0) where
   says_none (input.Ask query) none = refl
 
 module _ {S R : Type 0} (g : Ghosts S) (reads : R → Outcome → R → Type 0) (limits : Limits) where
-  pub found_in : (one : Lent R) (answer : Answer) (old new : S) → ReadsNone one → IsFoundOf g limits (plain_command one) answer old new → IsFoundIn g reads limits one answer old new
+  pub found_in : (one : Lent R) (answer : Answer) (old new : S) → ReadsNone one → IsFoundOf g limits (plain_command one) answer old new → IsFoundWithSource g reads limits one answer old new
   found_in (input.Import kind label source) answer old new none found = absurd none
   found_in (input.Annotate selection event file source) answer old new none found = absurd none
   found_in (input.Remove n) answer old new none found = found

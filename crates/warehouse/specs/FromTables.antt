@@ -90,7 +90,7 @@ module _ {S R : Type 0} (g : Ghosts S) (reads : R → Outcome → R → Type 0) 
   IsFoundOver limits command from to answer old new = IsFoundOf g limits command answer old new
 
   -- the same of a command that has its source with it
-  abbrev pub IsFoundIn : Limits → Lent R → Answer → S → S → Type 0
-  IsFoundIn limits (input.Import kind label source) answer old new = (to : R) × WasImported limits kind label.now source to answer old new
-  IsFoundIn limits (input.Annotate selection event file source) answer old new = (to : R) × WasAnnotated (plain_selection selection) event.now file.now source to answer old new
-  IsFoundIn limits command answer old new = IsFoundOf g limits (plain_command command) answer old new
+  abbrev pub IsFoundWithSource : Limits → Lent R → Answer → S → S → Type 0
+  IsFoundWithSource limits (input.Import kind label source) answer old new = (to : R) × WasImported limits kind label.now source to answer old new
+  IsFoundWithSource limits (input.Annotate selection event file source) answer old new = (to : R) × WasAnnotated (plain_selection selection) event.now file.now source to answer old new
+  IsFoundWithSource limits command answer old new = IsFoundOf g limits (plain_command command) answer old new

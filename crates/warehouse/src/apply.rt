@@ -10,7 +10,7 @@ ghost use Rattle.requests.specs.declared.queries.Query.TheVariants.{Csv};
 ghost use Rattle.histories.specs.Answered.{Answers};
 ghost use Rattle.histories.specs.FromTables.{OrFailed};
 ghost use Rattle.warehouse.specs.Answered.{IsGivenFor, IsShortFor, ReadsNone, WasAnswered, WasAnsweredOver, WasRun};
-ghost use Rattle.warehouse.specs.FromTables.{AnswersIn, IsFoundIn, IsFoundOver, WasImported};
+ghost use Rattle.warehouse.specs.FromTables.{AnswersIn, IsFoundWithSource, IsFoundOver, WasImported};
 
 use crate::answering::{act_in, annotate_in, csv_in, import_in};
 use crate::warehouse::Warehouse;
@@ -95,7 +95,7 @@ impl<S: RunStore> Warehouse<S> {
         ensures limits { self.new.limits ≡ self.old.limits }
         ensures short { IsShortFor self.old.most command.entry result }
         ensures answered { WasAnswered S.StoreState R.reads self.old.limits command.entry result self.old.store self.new.store }
-        ensures found { IsFoundIn S.StoreState R.reads self.old.limits command.entry result self.old.store self.new.store }
+        ensures found { IsFoundWithSource S.StoreState R.reads self.old.limits command.entry result self.old.store self.new.store }
     {
         let store = &mut self.store;
         match command {

@@ -4,7 +4,7 @@ use Rattle.run_stores.specs.Calls.{IsFaithful}
 use Rattle.histories.specs.Answered.{Answers}
 use Rattle.requests.specs.Plain.{plain_command}
 use Rattle.warehouse.specs.Answered.{IsShortFor, ReadsNone, Says}
-use Rattle.warehouse.specs.FromTables.{IsFoundIn}
+use Rattle.warehouse.specs.FromTables.{IsFoundWithSource}
 use Rattle.warehouse.proofs.NoneLemmas.{found_in, says_none}
 use Rattle.warehouse.proofs.warehouse.Warehouse.apply.Goals as goal
 
@@ -18,7 +18,7 @@ returns-in-Import-clause-answered g c =
 
 pub returns-in-Import-clause-found : goal.returns-in-Import-clause-found
 returns-in-Import-clause-found g c =
-    subst (λ k. IsFoundIn g.S.StoreState g.R.Source.reads c.args.self.now.limits k c.import_in.result c.args.self.now.store c.import_in.new.store) (sym c.in-Import.is) (c.import_in.new.source, c.import_in.ensures.found)
+    subst (λ k. IsFoundWithSource g.S.StoreState g.R.Source.reads c.args.self.now.limits k c.import_in.result c.args.self.now.store c.import_in.new.store) (sym c.in-Import.is) (c.import_in.new.source, c.import_in.ensures.found)
 
 pub returns-in-Import-clause-short : goal.returns-in-Import-clause-short
 returns-in-Import-clause-short g c = subst (λ k. IsShortFor c.args.self.now.most k c.import_in.result) (sym c.in-Import.is) tt
@@ -33,7 +33,7 @@ returns-in-Annotate-clause-answered g c =
 
 pub returns-in-Annotate-clause-found : goal.returns-in-Annotate-clause-found
 returns-in-Annotate-clause-found g c =
-    subst (λ k. IsFoundIn g.S.StoreState g.R.Source.reads c.args.self.now.limits k c.annotate_in.result c.args.self.now.store c.annotate_in.new.store) (sym c.in-Annotate.is) (c.annotate_in.new.source, c.annotate_in.ensures.found)
+    subst (λ k. IsFoundWithSource g.S.StoreState g.R.Source.reads c.args.self.now.limits k c.annotate_in.result c.args.self.now.store c.annotate_in.new.store) (sym c.in-Annotate.is) (c.annotate_in.new.source, c.annotate_in.ensures.found)
 
 pub returns-in-Annotate-clause-short : goal.returns-in-Annotate-clause-short
 returns-in-Annotate-clause-short g c = subst (λ k. IsShortFor c.args.self.now.most k c.annotate_in.result) (sym c.in-Annotate.is) c.annotate_in.ensures.short
