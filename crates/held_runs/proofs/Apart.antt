@@ -25,8 +25,8 @@ use Rattle.store_schema.specs.Schema.{name_at, schema_two}
 use Rattle.store_schema.specs.Tables.{name_columns, number}
 use Rattle.store_schema.proofs.Values.{blobs_equal}
 use Rattle.held_lines.proofs.Apart.{line_of}
-use Rattle.prof_store.specs.Readings.{as_read, IsSaidBy, RowsSay}
-use Rattle.prof_store.proofs.Readings.{Says, blob_read, equals_read, names_said, not_null, row_of_line}
+use Rattle.prof_store.specs.Readings.{as_read, IsSaidBy, RowsSay, Says}
+use Rattle.prof_store.proofs.Readings.{blob_read, equals_read, names_said, not_null, row_of_line}
 use Rattle.prof_store.proofs.Told.{said}
 use Rattle.run_stores.specs.Names.{AreApart}
 

@@ -31,12 +31,12 @@ use Rattle.store_schema.specs.Schema.{schema_two, to, run_at, run_event_at, deri
 use Rattle.store_schema.specs.Seen.{is_at, event_seen, derived_seen, coef_seen, event_shown, derived_shown, coef_shown, run_of_member_seen}
 use Rattle.plain_tables.specs.Tables.{Tables, RunRow, EventRow, DerivedRow, CoefRow, MemberRow}
 use Rattle.store_schema.specs.Tables.{run_columns, event_columns, derived_columns, coef_columns, name_columns, group_columns, member_columns, number, number_or_null, text_or_null}
-use Rattle.prof_store.specs.Readings.{as_read, IsSaidBy, RowsSay}
+use Rattle.prof_store.specs.Readings.{as_read, IsSaidBy, RowsSay, Says, SaysBehind}
 use Rattle.prof_store.proofs.Listing.{map_injective}
 use Rattle.prof_store.proofs.Members.{plain_has}
 use Rattle.prof_store.proofs.RunRows.{of_run}
 use Rattle.prof_store.proofs.Told.{said}
-use Rattle.prof_store.proofs.Readings.{runs_rise as rows_rise, names_rise, cells_shaped, calls_shaped, stacks_shaped, Says, SaysBehind, values_read, number_read, equals_read, not_null, number_at, text_at, picked_said, seen_said, line_of_row, row_of_line, shown_read, permutes_read, runs_said, event_entries, derived_entries, coef_entries, names_said, groups_said, members_said}
+use Rattle.prof_store.proofs.Readings.{runs_rise as rows_rise, names_rise, cells_shaped, calls_shaped, stacks_shaped, values_read, number_read, equals_read, not_null, number_at, text_at, picked_said, seen_said, line_of_row, row_of_line, shown_read, permutes_read, runs_said, event_entries, derived_entries, coef_entries, names_said, groups_said, members_said}
 use Rattle.held_lines.specs.HeadColumns as heads
 use Rattle.held_runs.specs.HeadRows.{events_in_tables, derived_in_tables, coefs_in_tables, events_in_rows, derived_in_rows, coefs_in_rows}
 use Rattle.run_stores.specs.Lookups.{IsBaselineOf, IsKindOf, members_in_tables, numbers_in_tables}

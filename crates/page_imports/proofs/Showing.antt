@@ -37,7 +37,7 @@ module _ {D : Type 0} {g : Ghosts D} (file : PageFile D g) {wanted : List Wanted
   pub index_at : (under : ℕ) (index : Index) → slice_get schema_two.indexes under ≡ Some index → index.order ≡ plain → (place : IndexPlace) → place.root ≡ slice_index known index.tree → place.columns.now ≡ index.columns
       → IsIndexPlace wanted known place index
   index_at under index there order place root_is columns_are =
-      let placed = index_placed_at wanted now (catalog_shown file (stands_writing file writes)) holds under index there in
+      let placed = index_placed_at wanted now (catalog_shown file (stands_writing file writes)) holds.contain.sound under index there in
       record {
         at = record { low = placed.low; shape_is = placed.named.shape ∙ ap (λ o. shape.Index o) order; root_is = sym root_is };
         no_reals = placed.plain;
@@ -48,7 +48,7 @@ module _ {D : Type 0} {g : Ghosts D} (file : PageFile D g) {wanted : List Wanted
   pub table_at : (at : ℕ) (table : Table) → slice_get schema_two.tables at ≡ Some table → (place : Place) → place.root ≡ slice_index known table.tree → AreIndexPlaces wanted known place.indexes.now (indexes_of schema_two table)
       → Shows place schema_two wanted known was now table file
   table_at at table there place root_is indexes =
-      let placed = placed_at wanted now (catalog_shown file (stands_writing file writes)) holds at table there in
+      let placed = placed_at wanted now (catalog_shown file (stands_writing file writes)) holds.contain.sound at table there in
       record {
         writes = writes;
         placed = record {

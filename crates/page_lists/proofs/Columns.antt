@@ -1,13 +1,15 @@
 -- Lines are told by their columns.
-use Rattle.std.proofs.Common.{◌≡◌, ℕ, List, [], ◌∷◌, map, drop, slice_get, Option, Some, None, refl, ap, ap₂, ◌∙◌}
+use Rattle.std.proofs.Common.{◌≡◌, ℕ, List, [], ◌∷◌, map, drop, Option, Some, None, refl, sym, ap, ap₂, ◌∙◌}
+use Rattle.std.specs.List.{AllZip}
+use Rattle.sqlite_value.specs.declared.value.Value.TheVariants.{Text, Blob}
 use Rattle.sqlite_value.specs.Order.{Row, bytes, column}
 use Rattle.sqlite_trees.specs.Tree.{Trees}
 use Rattle.sqlite_schema.specs.declared.schema.Table.{Table}
-use Rattle.sql_tables.specs.Contents.{rows_that_count, content_at}
-use Rattle.sql_tables.proofs.Contents.{content_there}
+use Rattle.prof_store.specs.Readings.{as_read, row_read, IsSaidBy, Says, SaysBehind}
+use Rattle.prof_store.proofs.Readings.{coef_entries, derived_entries, event_entries, groups_said, members_said, meta_said, runs_said}
 use Rattle.plain_tables.specs.Tables.{Tables, RunRow, EventRow, DerivedRow, CoefRow, GroupRow, MemberRow}
-use Rattle.store_schema.specs.Schema.{schema_two, meta_at, run_at, run_event_at, derived_at, coef_at, grp_at, member_at}
-use Rattle.store_schema.specs.Tables.{Holds, contents_of, number_or_null, text_or_null, meta_columns, run_columns, event_columns, derived_columns, coef_columns, group_columns, member_columns}
+use Rattle.store_schema.specs.Schema.{meta_at, run_at, run_event_at, derived_at, coef_at, grp_at, member_at}
+use Rattle.store_schema.specs.Tables.{number, number_or_null, text_or_null, meta_columns, run_columns, event_columns, derived_columns, coef_columns, group_columns, member_columns}
 use Rattle.run_lists.specs.Listed.{run_row, event_row, derived_row, coef_row, group_row, member_row}
 use Rattle.run_lists.specs.declared.listed.ListedRun.{ListedRun}
 use Rattle.run_lists.specs.declared.listed.ListedEvent.{ListedEvent}
@@ -16,7 +18,7 @@ use Rattle.run_lists.specs.declared.listed.ListedCoef.{ListedCoef}
 use Rattle.run_lists.specs.declared.listed.ListedGroup.{ListedGroup}
 use Rattle.run_lists.specs.declared.listed.ListedMember.{ListedMember}
 use Rattle.page_lists.specs.Walks.{natural}
-use Rattle.page_lists.proofs.RunRows.{map_injective}
+use Rattle.page_lists.proofs.Said.{ReadPlain, one_line, read_as_said}
 
 one_number_or_null : (a b : Option ℕ) → number_or_null a ≡ number_or_null b → a ≡ b
 one_number_or_null None None is = refl
@@ -71,40 +73,56 @@ one_member a b is = ap made is
     made : Row → MemberRow
     made row = record { group = bytes (column row 0); run = natural (column row 1) }
 
-module _ {L R : Type 0} (row : L → R) (columns : R → Row) where
-  -- lines with the columns of rows are these rows
-  listed_as : ((a b : R) → columns a ≡ columns b → a ≡ b) → (lines : List L) (rows : List R) → map (λ line. columns (row line)) lines ≡ map columns rows → map row lines ≡ rows
-  listed_as one lines rows is = map_injective columns one (map row lines) rows (map_map lines ∙ is)
-    where
-      map_map : (lines : List L) → map columns (map row lines) ≡ map (λ line. columns (row line)) lines
-      map_map [] = refl
-      map_map (line ∷ lines) = ap (λ l. columns (row line) ∷ l) (map_map lines)
-
-all_seen : (rows : List Row) → map (λ (row : Row). row) rows ≡ rows
+pub all_seen : (rows : List Row) → map (λ (row : Row). row) rows ≡ rows
 all_seen [] = refl
 all_seen (row ∷ rows) = ap (λ l. row ∷ l) (all_seen rows)
 
-module _ {t : Tables} {db : Trees} (holds : Holds t db) where
-  content_of : (at : ℕ) (table : Table) → slice_get schema_two.tables at ≡ Some table → rows_that_count table (db table.tree) ≡ content_at at (contents_of t)
-  content_of at table there = (content_there schema_two.tables (contents_of t) db at table there holds.contain.contents_are).rows_are
+-- those that may be missing too
+event_plain : (far : ℕ → ℕ) → ReadPlain far run_event_at event_columns
+event_plain far e = go e.stated
+  where
+    go : (stated : Option (List ℕ)) → number e.run ∷ number e.place ∷ Blob e.name ∷ number e.self_cost ∷ number e.call_cost ∷ as_read far (text_or_null stated) ∷ []
+        ≡ number e.run ∷ number e.place ∷ Blob e.name ∷ number e.self_cost ∷ number e.call_cost ∷ text_or_null stated ∷ []
+    go None = refl
+    go (Some text) = refl
 
-  pub meta_held : db meta_at.tree ≡ meta_columns t.next ∷ []
-  meta_held = content_of 0 meta_at refl
+group_plain : (far : ℕ → ℕ) → ReadPlain far grp_at group_columns
+group_plain far g = go g.baseline
+  where
+    go : (baseline : Option ℕ) → Text g.name ∷ as_read far (number_or_null baseline) ∷ [] ≡ Text g.name ∷ number_or_null baseline ∷ []
+    go None = refl
+    go (Some n) = refl
+
+-- lines of a table with a key have its columns, rowid and all
+module _ {L R : Type 0} (line : L → R) (columns : R → Row) (one : (a b : R) → columns a ≡ columns b → a ≡ b) (far : ℕ → ℕ) (table : Table) (plain : (x : R) → row_read far table (columns x) ≡ columns x) where
+  keyed_as : (rows : List Row) (xs : List R) (lines : List L) → AllZip (Says far table columns) rows xs → map (λ l. columns (line l)) lines ≡ map (λ (row : Row). row) rows → map line lines ≡ xs
+  keyed_as = read_as_said line columns one (λ row. row) (Says far table columns) (λ r x l says is. sym (plain l) ∙ ap (row_read far table) is ∙ says)
+
+-- others the columns behind it
+module _ {L R : Type 0} (line : L → R) (columns : R → Row) (one : (a b : R) → columns a ≡ columns b → a ≡ b) (far : ℕ → ℕ) (table : Table) (plain : ReadPlain far table columns) (filled : (x : R) → columns x ≡ [] → ⊥) where
+  behind_as : (rows : List Row) (xs : List R) (lines : List L) → AllZip (SaysBehind far table columns) rows xs → map (λ l. columns (line l)) lines ≡ map (drop 1) rows → map line lines ≡ xs
+  behind_as = read_as_said line columns one (drop 1) (SaysBehind far table columns) (one_line far table columns plain filled)
+
+module _ (t : Tables) (db : Trees) (was : IsSaidBy t db) where
+  pub next_told : (next : ℕ) → db meta_at.tree ≡ meta_columns next ∷ [] → next ≡ t.next
+  next_told next is =
+      let read : meta_columns next ∷ [] ≡ meta_columns t.next ∷ [] = ap (map (row_read was.far meta_at)) (sym is) ∙ meta_said t db was in
+      cc
 
   pub runs_told : (lines : List ListedRun) → map (λ line. run_columns (run_row line)) lines ≡ map (λ (row : Row). row) (db run_at.tree) → map run_row lines ≡ t.runs
-  runs_told lines is = listed_as run_row run_columns one_run lines t.runs (is ∙ all_seen (db run_at.tree) ∙ content_of 1 run_at refl)
+  runs_told lines = keyed_as run_row run_columns one_run was.far run_at (λ x. refl) (db 1) t.runs lines (runs_said t db was)
 
   pub events_told : (lines : List ListedEvent) → map (λ line. event_columns (event_row line)) lines ≡ map (drop 1) (db run_event_at.tree) → map event_row lines ≡ t.events
-  events_told lines is = listed_as event_row event_columns one_event lines t.events (is ∙ content_of 2 run_event_at refl)
+  events_told lines = behind_as event_row event_columns one_event was.far run_event_at (event_plain was.far) (λ x none. absurd cc) (db 3) t.events lines (event_entries t db was)
 
   pub derived_told : (lines : List ListedDerived) → map (λ line. derived_columns (derived_row line)) lines ≡ map (drop 1) (db derived_at.tree) → map derived_row lines ≡ t.derived
-  derived_told lines is = listed_as derived_row derived_columns one_derived lines t.derived (is ∙ content_of 3 derived_at refl)
+  derived_told lines = behind_as derived_row derived_columns one_derived was.far derived_at (λ x. refl) (λ x none. absurd cc) (db 6) t.derived lines (derived_entries t db was)
 
   pub coefs_told : (lines : List ListedCoef) → map (λ line. coef_columns (coef_row line)) lines ≡ map (drop 1) (db coef_at.tree) → map coef_row lines ≡ t.coefs
-  coefs_told lines is = listed_as coef_row coef_columns one_coef lines t.coefs (is ∙ content_of 4 coef_at refl)
+  coefs_told lines = behind_as coef_row coef_columns one_coef was.far coef_at (λ x. refl) (λ x none. absurd cc) (db 9) t.coefs lines (coef_entries t db was)
 
   pub groups_told : (lines : List ListedGroup) → map (λ line. group_columns (group_row line)) lines ≡ map (drop 1) (db grp_at.tree) → map group_row lines ≡ t.groups
-  groups_told lines is = listed_as group_row group_columns one_group lines t.groups (is ∙ content_of 8 grp_at refl)
+  groups_told lines = behind_as group_row group_columns one_group was.far grp_at (group_plain was.far) (λ x none. absurd cc) (db 19) t.groups lines (groups_said t db was)
 
   pub members_told : (lines : List ListedMember) → map (λ line. member_columns (member_row line)) lines ≡ map (drop 1) (db member_at.tree) → map member_row lines ≡ t.members
-  members_told lines is = listed_as member_row member_columns one_member lines t.members (is ∙ content_of 9 member_at refl)
+  members_told lines = behind_as member_row member_columns one_member was.far member_at (λ x. refl) (λ x none. absurd cc) (db 21) t.members lines (members_said t db was)

@@ -8,5 +8,6 @@ pub mod NameColumns
 pub mod Probing
 pub mod Rooting
 pub mod RunRows
+pub mod Said
 pub mod Shows
 pub mod SomeNames

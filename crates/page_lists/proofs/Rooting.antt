@@ -1,26 +1,25 @@
 -- The tables of a store, under their roots.
 use Rattle.std.proofs.Common.{◌≡◌, ℕ, List, slice_get, slice_index, Some, refl}
 use Rattle.sqlite_disk.specs.declared.Disk.{Ghosts}
+use Rattle.sqlite_catalog.specs.Listing.{IsSound}
 use Rattle.sqlite_schema.specs.declared.schema.Table.{Table}
 use Rattle.sqlite_store.specs.declared.catalog.Wanted.{Wanted}
 use Rattle.sqlite_trees.specs.Tree.{Trees}
 use Rattle.page_files.specs.declared.files.PageFile.{PageFile}
 use Rattle.page_files.specs.Trees.{StandsIn}
 use Rattle.page_files.proofs.Standing.{catalog_shown, table_stands, tree_shown}
-use Rattle.plain_tables.specs.Tables.{Tables}
 use Rattle.store_schema.specs.Schema.{schema_two, meta_at, run_at, run_event_at, derived_at, coef_at, name_at, arc_at, stack_at, grp_at, member_at, thread_cell_at}
-use Rattle.store_schema.specs.Tables.{Holds}
 use Rattle.page_places.specs.declared.roots.StoreRoots.{StoreRoots}
 use Rattle.page_places.specs.Roots.{AreRoots}
 use Rattle.page_places.proofs.Placing.{placed_at}
 use Rattle.page_lists.specs.Shown.{StandUnder, ShowsRows}
 
 module _ {D : Type 0} {g : Ghosts D} where
-  module _ (file : PageFile D g) (t : Tables) (db : Trees) (known : List ℕ) {wanted : List Wanted} (stands : StandsIn wanted known db file) (holds : Holds t db) where
+  module _ (file : PageFile D g) (db : Trees) (known : List ℕ) {wanted : List Wanted} (stands : StandsIn wanted known db file) (sound : IsSound schema_two db) where
     -- it has each table under its root
     pub table_shows : (at : ℕ) (table : Table) → slice_get schema_two.tables at ≡ Some table → (root : ℕ) → root ≡ slice_index known table.tree → ShowsRows file root (db table.tree)
     table_shows at table there root root_is =
-        let placed = placed_at wanted db (catalog_shown file stands) holds at table there in
+        let placed = placed_at wanted db (catalog_shown file stands) sound at table there in
         record {
           wanted = wanted;
           t = table.tree;

@@ -11,6 +11,7 @@ use Rattle.sqlite_trees.specs.Tree.{rowid}
 use Rattle.page_rows.specs.Rows.{from_rowid}
 use Rattle.run_stores.specs.Order.{ByRun}
 use Rattle.page_lists.specs.Walks.{AllEarlier, AreOfRun, InOrder, IsFirstOf, is_of, natural, run_in}
+use Rattle.page_lists.proofs.Said.{second_is_first}
 
 -- ---- lists
 
@@ -144,10 +145,6 @@ module _ {L : Type 0} (columns : L → Row) (run : ℕ) where
 
 -- ---- in the tables
 
-second_is_first : (row : Row) → column row 1 ≡ column (drop 1 row) 0
-second_is_first [] = refl
-second_is_first (v ∷ row) = refl
-
 module _ {X : Type 0} (columns : X → Row) (run : X → ℕ) (first : (x : X) → natural (column (columns x) 0) ≡ run x) where
   run_shown : (row : Row) (x : X) → drop 1 row ≡ columns x → run_in row ≡ run x
   run_shown row x is = ap natural (second_is_first row) ∙ ap (λ r. natural (column r 0)) is ∙ first x
@@ -168,21 +165,3 @@ module _ {X : Type 0} (columns : X → Row) (run : X → ℕ) (first : (x : X) �
       let here : drop 1 row ≡ columns x = cc in
       let later : map (drop 1) rows ≡ map columns xs = cc in
       (all_shown (λ n. run_in row ≤ n) rows xs later (subst (λ n. AllByRecursion (λ y. n ≤ run y) xs) (sym (run_shown row x here)) order.0), shown_in_order rows xs later order.1)
-
-  picked : (n : ℕ) (rows : List Row) (xs : List X) → map (drop 1) rows ≡ map columns xs → map (drop 1) (filter (is_of n) rows) ≡ map columns (filter (λ x. eqb (run x) n) xs)
-  picked n [] [] is = refl
-  picked n [] (x ∷ xs) is = absurd (cc)
-  picked n (row ∷ rows) [] is = absurd (cc)
-  picked n (row ∷ rows) (x ∷ xs) is =
-      let here : drop 1 row ≡ columns x = cc in
-      let later : map (drop 1) rows ≡ map columns xs = cc in
-      let same : is_of n row ≡ eqb (run x) n = ap (λ m. eqb m n) (run_shown row x here) in
-      elim (cases_Bool (eqb (run x) n)) [
-        | inl of ↦ rw (same, of) (ap₂ ◌∷◌ here (picked n rows xs later))
-        | inr other ↦ rw (same, other) (picked n rows xs later)
-      ]
-
-  -- the lines of a run are those of the tables
-  pub lines_are : ((a b : X) → columns a ≡ columns b → a ≡ b) → (n : ℕ) (rows : List Row) (xs : List X) → map (drop 1) rows ≡ map columns xs → (lines : List X) → AreOfRun columns n rows lines
-      → filter (λ x. eqb (run x) n) xs ≡ lines
-  lines_are one n rows xs is lines are = map_injective columns one _ lines (sym (picked n rows xs is) ∙ sym are)

@@ -9,8 +9,8 @@ use Rattle.page_files.specs.Files.{OnlyReads, page_size, pages_of}
 use Rattle.page_rows.specs.Rows.{from_rowid}
 use Rattle.page_files.proofs.Reading.{same_table, same_trees}
 use Rattle.page_rows.proofs.FileTables.{all_shown_from_least, shown_behind}
-use Rattle.page_places.specs.Stores.{ShowsStore}
-use Rattle.plain_tables.specs.Tables.{Tables}
+use Rattle.page_files.specs.Trees.{StandsIn}
+use Rattle.sqlite_store.specs.declared.catalog.Wanted.{Wanted}
 use Rattle.sqlite_store.specs.Db.{roots_of, IsDb}
 use Rattle.sqlite_store.specs.Listing.{all_trees}
 use Rattle.sqlite_trees.specs.Objects.{with_version}
@@ -27,18 +27,13 @@ module _ {D : Type 0} {g : Ghosts D} where
       rows_are = ap (λ (trees : Trees). trees is.t) (same_trees old new size pages is.wanted) ∙ is.rows_are;
     }
 
-    -- and the same store
-    pub same_store : {t : Tables} {known : List ℕ} → ShowsStore t known old → ShowsStore t known new
-    same_store is = record {
-      wanted = is.wanted;
-      db = is.db;
-      stands = record {
-        is_db = subst₂ (λ n p. IsDb n is.wanted p) (sym size) (sym pages) is.stands.is_db;
-        known_are = is.stands.known_are ∙ ap₂ (λ n p. roots_of n is.wanted p) (sym size) (sym pages);
-        version = is.stands.version;
-        reads = is.stands.reads ∙ ap₂ (λ n p. with_version (all_trees n is.wanted p) is.stands.version) (sym size) (sym pages);
-      };
-      holds = is.holds;
+    -- and the same trees
+    pub same_stands : {wanted : List Wanted} {known : List ℕ} {db : Trees} → StandsIn wanted known db old → StandsIn wanted known db new
+    same_stands {wanted} stands = record {
+      is_db = subst₂ (λ n p. IsDb n wanted p) (sym size) (sym pages) stands.is_db;
+      known_are = stands.known_are ∙ ap₂ (λ n p. roots_of n wanted p) (sym size) (sym pages);
+      version = stands.version;
+      reads = stands.reads ∙ ap₂ (λ n p. with_version (all_trees n wanted p) stands.version) (sym size) (sym pages);
     }
 
   -- calls that read leave the rows

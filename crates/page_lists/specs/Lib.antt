@@ -1,5 +1,6 @@
 pub mod Among
 pub mod Indexed
+pub mod Lists
 pub mod Meta
 pub mod Names
 pub mod Opening

@@ -1,5 +1,6 @@
 -- The rows that an opened file shows.
-use Rattle.std.specs.Prelude.{◌≡◌, ℕ, List, map, drop}
+use Rattle.std.specs.Prelude.{◌≡◌, ◌≤◌, ◌^◌, ℕ, List}
+use Rattle.std.specs.List.{AllZip}
 use Rattle.sqlite_disk.specs.declared.Disk.{Ghosts}
 use Rattle.sqlite_store.specs.declared.catalog.Wanted.{Wanted}
 use Rattle.sqlite_trees.specs.Tree.{Trees}
@@ -7,7 +8,9 @@ use Rattle.sqlite_value.specs.Order.{Row}
 use Rattle.page_files.specs.declared.files.PageFile.{PageFile}
 use Rattle.page_files.specs.Trees.{ShowsTable, trees_of}
 use Rattle.store_schema.specs.Schema.{meta_at, run_at, run_event_at, derived_at, coef_at, name_at, arc_at, stack_at, grp_at, member_at, thread_cell_at}
-use Rattle.run_stores.specs.Order.{ByRun}
+use Rattle.sqlite_schema.specs.declared.schema.Table.{Table}
+use Rattle.prof_store.specs.Readings.{SaysBehind}
+use Rattle.page_lists.specs.Walks.{InOrder}
 use Rattle.page_places.specs.declared.roots.StoreRoots.{StoreRoots}
 
 module _ {D : Type 0} {g : Ghosts D} where
@@ -32,9 +35,11 @@ module _ {D : Type 0} {g : Ghosts D} where
     pub groups : ShowsRows file roots.groups (db grp_at.tree)
     pub members : ShowsRows file roots.members (db member_at.tree)
 
-  -- a table of lines of runs, in the order of the runs, stands under this root
-  pub record ShowsLines {X : Type 0} (file : PageFile D g) (root : ℕ) (columns : X → Row) (run : X → ℕ) (lines : List X) : Type 0 where
+  -- this table of lines of runs stands under the root, its rows in the order of the runs; whoever wrote them, they are read as these lines, a negative number as one that no command has
+  pub record ShowsLines {X : Type 0} (file : PageFile D g) (root : ℕ) (table : Table) (columns : X → Row) (lines : List X) : Type 0 where
     pub rows : List Row
     pub shows : ShowsRows file root rows
-    pub lines_are : map (drop 1) rows ≡ map columns lines
-    pub in_order : ByRun run lines
+    pub far : ℕ → ℕ
+    pub is_far : (n : ℕ) → 2 ^ 64 ≤ far n
+    pub said : AllZip (SaysBehind far table columns) rows lines
+    pub in_order : InOrder rows

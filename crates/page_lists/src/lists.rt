@@ -1,11 +1,13 @@
 // The small tables of a store, read into lists.
-ghost use Rattle.std.specs.Prelude.{◌≡◌, ◌∷◌, [], ℕ, IfErr, IfOk, OnOk};
+ghost use Rattle.std.specs.Prelude.{◌≡◌, ◌∷◌, [], ℕ, List, IfErr, IfOk, OnOk};
+ghost use Rattle.sqlite_value.specs.Order.{Row};
 ghost use Rattle.sqlite_trees.specs.Tree.{Trees};
 ghost use Rattle.page_files.specs.Files.{IsFaithful, IsUsable, OnlyReads};
 ghost use Rattle.plain_tables.specs.Tables.{Tables};
 ghost use Rattle.run_lists.specs.HeldRuns.{NameHeldRuns};
 ghost use Rattle.run_lists.specs.Listed.{AreListed};
-ghost use Rattle.store_schema.specs.Tables.{Holds, meta_columns};
+ghost use Rattle.prof_store.specs.Readings.{RowsSay};
+ghost use Rattle.store_schema.specs.Tables.{meta_columns};
 ghost use Rattle.page_lists.specs.Meta.{IsMeta};
 ghost use Rattle.page_lists.specs.Shown.{StandUnder, ShowsRows};
 
@@ -31,7 +33,7 @@ fn next_in(lines: &[Meta]) -> Result<u32, StoreError>
 
 /// The number that the next run gets. `Store` unless `meta` has one row, of schema 2.
 fn next_run<D: Disk>(file: &mut PageFile<D>, alloc: Global, root: u32) -> Result<u32, StoreError>
-    ensures next { IsFaithful file.new → (n : ℕ) → ShowsRows file.old root (meta_columns n ∷ []) → IfOk result (λ next. next ≡ n) }
+    ensures next { IsFaithful file.new → (rows : List Row) → ShowsRows file.old root rows → IfOk result (λ next. rows ≡ meta_columns next ∷ []) }
     ensures reads { OnlyReads file.old file.new }
 {
     let lines: Vec<Meta> = all_rows(file, alloc, root)?;
@@ -44,7 +46,7 @@ fn read_tables<D: Disk>(
     alloc: Global,
     roots: &StoreRoots,
 ) -> Result<RunLists, StoreError>
-    ensures listed { IsFaithful file.new → (t : Tables) (db : Trees) → Holds t db → StandUnder file.old db roots.now → IfOk result (AreListed t) }
+    ensures listed { IsFaithful file.new → (t : Tables) (db : Trees) → RowsSay t db → StandUnder file.old db roots.now → IfOk result (AreListed t) }
     ensures usable { OnOk result (IsUsable file.new) }
     ensures reads { OnlyReads file.old file.new }
 {
@@ -73,7 +75,7 @@ pub fn read_lists<D: Disk>(
     alloc: Global,
     roots: &StoreRoots,
 ) -> Result<RunLists, StoreError>
-    ensures listed { IsFaithful file.new → (t : Tables) (db : Trees) → Holds t db → StandUnder file.old db roots.now → IfOk result (AreListed t) }
+    ensures listed { IsFaithful file.new → (t : Tables) (db : Trees) → RowsSay t db → StandUnder file.old db roots.now → IfOk result (AreListed t) }
     ensures held { IfOk result (λ lists. (t : Tables) → AreListed t lists → NameHeldRuns t) }
     ensures usable { OnOk result (IsUsable file.new) }
     ensures reads { OnlyReads file.old file.new }

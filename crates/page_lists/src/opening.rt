@@ -2,10 +2,9 @@
 ghost use Rattle.std.specs.Prelude.{◌≡◌, ℕ, List, IfOk, OnOk};
 ghost use Rattle.sqlite_trees.specs.Tree.{Trees};
 ghost use Rattle.page_files.specs.Files.{IsFaithful, IsUsable, OnlyReads};
-ghost use Rattle.plain_tables.specs.Tables.{Tables};
-ghost use Rattle.run_lists.specs.Listed.{AreListed};
 ghost use Rattle.page_places.specs.Roots.{AreRoots, IsStoreOf};
 ghost use Rattle.page_lists.specs.Indexed.{AreIndexed};
+ghost use Rattle.page_lists.specs.Lists.{AreListedFrom};
 
 use crate::indexes::check_indexes;
 use crate::lists::read_lists;
@@ -23,8 +22,8 @@ fn read_store<D: Disk>(
     file: &mut PageFile<D>,
     alloc: Global,
 ) -> Result<(StoreRoots, RunLists, bool), StoreError>
-    ensures read { IsFaithful file.new → (t : Tables) (db : Trees) (known : List ℕ) → IsStoreOf file.old t db known
-        → IfOk result (λ r. AreRoots known r.0 × AreListed t r.1) }
+    ensures read { IsFaithful file.new → (db : Trees) (known : List ℕ) → IsStoreOf file.old db known
+        → IfOk result (λ r. AreRoots known r.0 × AreListedFrom db r.1) }
     ensures indexed { IfOk result (λ r. IsFaithful file.new → AreIndexed r.0 r.1 file.old) }
     ensures usable { OnOk result (IsUsable file.new) }
     ensures reads { OnlyReads file.old file.new }
@@ -47,8 +46,8 @@ pub fn open_store<D: Disk + Drop>(
     alloc: Global,
     mut file: PageFile<D>,
 ) -> Result<(PageFile<D>, StoreRoots, RunLists, bool), StoreError>
-    ensures opened { IfOk result (λ r. IsFaithful r.0 → (t : Tables) (db : Trees) (known : List ℕ) → IsStoreOf file t db known
-        → AreRoots known r.1 × AreListed t r.2) }
+    ensures opened { IfOk result (λ r. IsFaithful r.0 → (db : Trees) (known : List ℕ) → IsStoreOf file db known
+        → AreRoots known r.1 × AreListedFrom db r.2) }
     ensures indexed { IfOk result (λ r. IsFaithful r.0 → AreIndexed r.1 r.2 file) }
     ensures usable { IfOk result (λ r. IsUsable r.0) }
     ensures reads { IfOk result (λ r. OnlyReads file r.0) }

@@ -14,7 +14,6 @@ use Rattle.sqlite_rules.specs.Lists.{Has}
 use Rattle.sqlite_rules.proofs.ListLemmas.{some_has}
 use Rattle.sqlite_rules.proofs.ProbeLemmas.{has_mapped, mapped_has}
 use Rattle.sqlite_sql.specs.Catalog.{entry_of}
-use Rattle.sql_tables.proofs.Contents.{content_there}
 use Rattle.sql_tables.proofs.Queries.{has_permuted}
 use Rattle.std.proofs.lemmas.List.Sorted.{IsPermutation-sym}
 use Rattle.page_rows.specs.Indexes.{begins_with, from_entry}
@@ -25,10 +24,10 @@ use Rattle.plain_tables.specs.Tables.{Tables, NameRow}
 use Rattle.plain_tables.specs.declared.errors.StoreError.{StoreError}
 use Rattle.plain_tables.specs.declared.errors.StoreError.TheVariants.{Store}
 use Rattle.store_schema.specs.Names.{number_if_held}
-use Rattle.store_schema.specs.Schema.{schema_two, name_at}
-use Rattle.store_schema.specs.Tables.{Holds, contents_of, name_columns, number}
-use Rattle.store_schema.proofs.Names.{line_is_held}
+use Rattle.store_schema.specs.Tables.{name_columns, number}
+use Rattle.store_schema.proofs.Names.{line_named}
 use Rattle.page_rows.specs.Walks.{MayRefuse}
+use Rattle.page_places.specs.Stores.{HoldsNames}
 use Rattle.page_places.specs.Names.{EndsAt, HasWideNumber, IsRefused}
 
 is_tied : (o : Ordering) → is_eq o ≡ true → o ≡ Equal
@@ -73,20 +72,20 @@ from_has from (e ∷ entries) row there = step (is_lt (entry_cmp plain e from)) 
     step true h more = inr (more h)
     step false h more = h
 
-module _ (t : Tables) (now : Trees) (holds : Holds t now) (name : List ℕ) where
+module _ (t : Tables) (now : Trees) (holds : HoldsNames t now) (name : List ℕ) where
   rows_are : now 11 ≡ map name_columns t.names
-  rows_are = (content_there schema_two.tables (contents_of t) now 5 name_at refl holds.contain.contents_are).rows_are
+  rows_are = holds.names_are
 
   -- each line has its entry
   entry_there : (line : NameRow) → Has t.names line → Has (now 12) (entry_of_line line)
   entry_there line there =
       let row = subst (λ l. Has l (name_columns line)) (sym rows_are) (mapped_has name_columns t.names line there) in
-      has_permuted (now 12) (map (entry_of (2 ∷ [])) (now 11)) (entry_of_line line) (IsPermutation-sym _ _ holds.contain.sound.obeys.indexed.1.1.1.1.1.1.0) (mapped_has (entry_of (2 ∷ [])) (now 11) (name_columns line) row)
+      has_permuted (now 12) (map (entry_of (2 ∷ [])) (now 11)) (entry_of_line line) (IsPermutation-sym _ _ holds.sound.obeys.indexed.1.1.1.1.1.1.0) (mapped_has (entry_of (2 ∷ [])) (now 11) (name_columns line) row)
 
   -- and each entry its line
   line_there : (entry : Row) → Has (now 12) entry → (line : NameRow) × Has t.names line × (entry ≡ entry_of_line line)
   line_there entry there =
-      let row = has_mapped (entry_of (2 ∷ [])) (now 11) entry (has_permuted (map (entry_of (2 ∷ [])) (now 11)) (now 12) entry holds.contain.sound.obeys.indexed.1.1.1.1.1.1.0 there) in
+      let row = has_mapped (entry_of (2 ∷ [])) (now 11) entry (has_permuted (map (entry_of (2 ∷ [])) (now 11)) (now 12) entry holds.sound.obeys.indexed.1.1.1.1.1.1.0 there) in
       let line = has_mapped name_columns t.names row.0 (subst (λ l. Has l row.0) rows_are row.1) in
       (line.0, line.1, row.2 ∙ ap (entry_of (2 ∷ [])) line.2)
 
@@ -107,7 +106,7 @@ module _ (t : Tables) (now : Trees) (holds : Holds t now) (name : List ℕ) wher
       let (line, has, is) = line_there (Blob name ∷ number n ∷ []) there in
       let named : name ≡ line.name = cc in
       let numbered : n ≡ line.number = cc in
-      let held = line_is_held t now holds line has in
+      let held = line_named t now holds.sound holds.names_are line has in
       ap Some (numbered ∙ sym held.1 ∙ ap (number_in t.names) (sym named)) ∙ sym (ap (λ b. if b then Some (number_in t.names name) else None) (ap (has_name t) named ∙ held.0))
 
   -- what a walk from the name on found

@@ -21,9 +21,7 @@ use Rattle.sqlite_catalog.proofs.LayoutLemmas.{zipped_left}
 use Rattle.sqlite_store.specs.declared.catalog.Wanted.{Wanted}
 use Rattle.sqlite_store.specs.Catalog.{shape_at, reals_at}
 use Rattle.sqlite_store.specs.Listing.{listed, listed_from}
-use Rattle.plain_tables.specs.Tables.{Tables}
 use Rattle.store_schema.specs.Schema.{schema_two}
-use Rattle.store_schema.specs.Tables.{Holds}
 use Rattle.page_rows.specs.Tables.{description_at}
 use Rattle.page_places.specs.Placed.{IsIndexPlaced, IsPlaced}
 use Rattle.page_places.specs.Roots.{index_name}
@@ -118,11 +116,11 @@ table_placed schema wanted db catalog sound at table there plain =
 no_reals : AllByRecursion (λ (table : Table). table_reals table ≡ 0) schema_two.tables
 no_reals = (refl, (refl, (refl, (refl, (refl, (refl, (refl, (refl, (refl, (refl, (refl, tt)))))))))))
 
--- a database that holds tables has each of them under its name
-pub placed_at : {t : Tables} (wanted : List Wanted) (db : Trees) → db catalog_tree ≡ listed_from 0 wanted → Holds t db → (at : ℕ) (table : Table) → slice_get schema_two.tables at ≡ Some table
+-- a sound database of our tables has each of them under its name
+pub placed_at : (wanted : List Wanted) (db : Trees) → db catalog_tree ≡ listed_from 0 wanted → IsSound schema_two db → (at : ℕ) (table : Table) → slice_get schema_two.tables at ≡ Some table
     → IsPlaced wanted table
-placed_at wanted db catalog holds at table there =
-    table_placed schema_two wanted db catalog holds.contain.sound at table there
+placed_at wanted db catalog sound at table there =
+    table_placed schema_two wanted db catalog sound at table there
     (all_has (λ (it : Table). table_reals it ≡ 0) schema_two.tables table no_reals (has_got schema_two.tables at table there))
 
 -- ---- the indexes of schema 2
@@ -131,13 +129,13 @@ placed_at wanted db catalog holds at table there =
 no_index_reals : AllByRecursion (λ (index : Index). index_reals 0 index.columns ≡ 0) schema_two.indexes
 no_index_reals = (refl, (refl, (refl, (refl, (refl, (refl, (refl, (refl, (refl, (refl, (refl, (refl, tt))))))))))))
 
--- a database that holds tables has each of their indexes under its name
-pub index_placed_at : {t : Tables} (wanted : List Wanted) (db : Trees) → db catalog_tree ≡ listed_from 0 wanted → Holds t db → (at : ℕ) (index : Index)
+-- and each of their indexes
+pub index_placed_at : (wanted : List Wanted) (db : Trees) → db catalog_tree ≡ listed_from 0 wanted → IsSound schema_two db → (at : ℕ) (index : Index)
     → slice_get schema_two.indexes at ≡ Some index → IsIndexPlaced wanted index
-index_placed_at wanted db catalog holds at index there =
+index_placed_at wanted db catalog sound at index there =
     let rows = db catalog_tree in
     let has = has_got schema_two.indexes at index there in
-    let (row, kept, is) = zipped_left (IsIndexRow schema_two.tables) _ schema_two.indexes index holds.contain.sound.lists.listed.indexes has in
+    let (row, kept, is) = zipped_left (IsIndexRow schema_two.tables) _ schema_two.indexes index sound.lists.listed.indexes has in
     let place = listed_at 0 wanted row (subst (λ l. Has l row) catalog (has_filtered is_index_row rows row kept).0) in
     let id : Int (pos (0 + place.0 + 1)) ≡ Int (pos (index.tree + 1)) = sym place.1.id ∙ is.described.id in
     let number : 0 + place.0 + 1 ≡ index.tree + 1 = cc in

@@ -10,19 +10,19 @@ use Rattle.page_files.specs.declared.files.PageFile.{PageFile}
 use Rattle.page_files.specs.Files.{OnlyReads}
 use Rattle.page_files.specs.Held.{Rests}
 use Rattle.page_files.proofs.Standing.{shows_resting, stands_after, stands_resting}
-use Rattle.plain_tables.specs.Tables.{Tables}
-use Rattle.store_schema.specs.Tables.{Holds}
+use Rattle.sqlite_catalog.specs.Listing.{IsSound}
+use Rattle.store_schema.specs.Schema.{schema_two}
 use Rattle.page_places.specs.Roots.{AreFound, AreNames, IsStoreOf}
 
 module _ {D : Type 0} {g : Ghosts D} where
-  -- a file that rests on a store is one
-  pub store_resting : (file : PageFile D g) (t : Tables) (db : Trees) (known : List ℕ) (wanted : List Wanted) → Rests wanted known db file → Holds t db → IsStoreOf file t db known
-  store_resting file t db known wanted rests holds = record { wanted = wanted; stands = stands_resting file rests; no_zero = (shows_resting file rests).no_zero; holds = holds }
+  -- a file that rests on a sound database is one
+  pub store_resting : (file : PageFile D g) (db : Trees) (known : List ℕ) (wanted : List Wanted) → Rests wanted known db file → IsSound schema_two db → IsStoreOf file db known
+  store_resting file db known wanted rests sound = record { wanted = wanted; stands = stands_resting file rests; no_zero = (shows_resting file rests).no_zero; sound = sound }
 
   -- calls that read leave the store
-  pub store_after : (old new : PageFile D g) (t : Tables) (db : Trees) (known : List ℕ) → OnlyReads old new → IsStoreOf old t db known → IsStoreOf new t db known
-  store_after old new t db known reads is =
-      record { wanted = is.wanted; stands = stands_after old new reads is.stands; no_zero = ap (λ (p : PageMap). p 0) reads.pages ∙ is.no_zero; holds = is.holds }
+  pub store_after : (old new : PageFile D g) (db : Trees) (known : List ℕ) → OnlyReads old new → IsStoreOf old db known → IsStoreOf new db known
+  store_after old new db known reads is =
+      record { wanted = is.wanted; stands = stands_after old new reads is.stands; no_zero = ap (λ (p : PageMap). p 0) reads.pages ∙ is.no_zero; sound = is.sound }
 
 -- one more is found
 pub one_found : {X : Type 0} (items : List X) (tree : X → ℕ) (known roots : List ℕ) (at root : ℕ) → at < length roots → AreFound items tree known roots at → ((x : X) → slice_get items at ≡ Some x → root ≡ slice_index known (tree x))

@@ -12,7 +12,7 @@ use Rattle.plain_tables.specs.declared.errors.StoreError.TheVariants.{Store}
 use Rattle.store_schema.specs.Names.{number_if_held}
 use Rattle.store_schema.specs.Tables.{number}
 use Rattle.page_places.specs.Failures.{IsFailureOf}
-use Rattle.page_places.specs.Stores.{ShowsStore}
+use Rattle.page_places.specs.Stores.{ShowsNames}
 
 -- the entry is of this name and number, or of another name
 abbrev pub IsFound : List ℕ → Row → Option ℕ → Type 0
@@ -45,5 +45,5 @@ module _ {D : Type 0} {g : Ghosts D} (old new : PageFile D g) where
   -- under the root of the index of names, the number of this name is found, if it is held
   abbrev pub FindsName : ℕ → List ℕ → Result (Option ℕ) StoreError → Type 0
   FindsName root name result =
-      IsFaithful new → (t : Tables) (known : List ℕ) → ShowsStore t known old → root ≡ slice_index known 12
+      IsFaithful new → (t : Tables) (known : List ℕ) → ShowsNames t known old → root ≡ slice_index known 12
       → MatchResult result (λ found. found ≡ number_if_held t name) (FailsToFind t)

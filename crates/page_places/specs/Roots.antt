@@ -2,6 +2,7 @@
 use Rattle.std.specs.Prelude.{◌≡◌, ℕ, ◌<◌, List, None, Some, map, slice_get, slice_index}
 use Rattle.std.specs.Borrow.{Bor}
 use Rattle.sqlite_disk.specs.declared.Disk.{Ghosts}
+use Rattle.sqlite_catalog.specs.Listing.{IsSound}
 use Rattle.sqlite_schema.specs.declared.schema.Index.{Index}
 use Rattle.sqlite_schema.specs.declared.schema.Table.{Table}
 use Rattle.sqlite_store.specs.declared.catalog.Wanted.{Wanted}
@@ -9,9 +10,7 @@ use Rattle.sqlite_trees.specs.Tree.{Trees}
 use Rattle.page_files.specs.declared.files.PageFile.{PageFile}
 use Rattle.page_files.specs.Files.{pages_of, IsFaithful, FailsToRead}
 use Rattle.page_files.specs.Trees.{StandsIn}
-use Rattle.plain_tables.specs.Tables.{Tables}
 use Rattle.store_schema.specs.Schema.{schema_two, meta_at, run_at, run_event_at, derived_at, coef_at, name_at, arc_at, stack_at, grp_at, member_at, thread_cell_at}
-use Rattle.store_schema.specs.Tables.{Holds}
 use Rattle.plain_tables.specs.declared.errors.StoreError.{StoreError}
 use Rattle.page_places.specs.Failures.{IsFailureOf}
 use Rattle.page_places.specs.declared.roots.StoreRoots.{StoreRoots}
@@ -63,37 +62,37 @@ pub record AreRoots (known : List ℕ) (roots : StoreRoots) : Type 0 where
   pub cell_keys : roots.cell_keys ≡ slice_index known 24
 
 module _ {D : Type 0} {g : Ghosts D} where
-  -- the file is a store in which the tables hold these rows, its trees are these, and their roots those
-  pub record IsStoreOf (file : PageFile D g) (t : Tables) (db : Trees) (known : List ℕ) : Type 0 where
+  -- the file is a sound database of our tables, whatever stands in them, its trees are these, and their roots those
+  pub record IsStoreOf (file : PageFile D g) (db : Trees) (known : List ℕ) : Type 0 where
     pub wanted : List Wanted
     pub stands : StandsIn wanted known db file
     pub no_zero : pages_of file 0 ≡ None
-    pub holds : Holds t db
+    pub sound : IsSound schema_two db
 
   -- this is the root of the table of this name in a store
   abbrev pub FindsTable : PageFile D g → PageFile D g → List ℕ → ℕ → Type 0
   FindsTable old new name root =
-      IsFaithful new → (t : Tables) (db : Trees) (known : List ℕ) → IsStoreOf old t db known
+      IsFaithful new → (db : Trees) (known : List ℕ) → IsStoreOf old db known
       → (at : ℕ) (table : Table) → slice_get schema_two.tables at ≡ Some table → table.name ≡ name → root ≡ slice_index known table.tree
 
   -- in a store a table of this name is missed only where the pages were not read for a cause
   abbrev pub MissesTable : PageFile D g → PageFile D g → List ℕ → StoreError → Type 0
   MissesTable old new name e =
-      IsFaithful new → (t : Tables) (db : Trees) (known : List ℕ) → IsStoreOf old t db known
+      IsFaithful new → (db : Trees) (known : List ℕ) → IsStoreOf old db known
       → (at : ℕ) (table : Table) → slice_get schema_two.tables at ≡ Some table → table.name ≡ name → IsFailureOf (FailsToRead old new) e
 
   -- and so an index
   abbrev pub MissesIndex : PageFile D g → PageFile D g → List ℕ → StoreError → Type 0
   MissesIndex old new name e =
-      IsFaithful new → (t : Tables) (db : Trees) (known : List ℕ) → IsStoreOf old t db known
+      IsFaithful new → (db : Trees) (known : List ℕ) → IsStoreOf old db known
       → (at : ℕ) (index : Index) → slice_get schema_two.indexes at ≡ Some index → index.name ≡ name → IsFailureOf (FailsToRead old new) e
 
   -- in a store the pages were not read for a cause
   abbrev pub FailsInStore : PageFile D g → PageFile D g → StoreError → Type 0
-  FailsInStore old new e = IsFaithful new → (t : Tables) (db : Trees) (known : List ℕ) → IsStoreOf old t db known → IsFailureOf (FailsToRead old new) e
+  FailsInStore old new e = IsFaithful new → (db : Trees) (known : List ℕ) → IsStoreOf old db known → IsFailureOf (FailsToRead old new) e
 
   -- this is the root of the index of this name in a store
   abbrev pub FindsIndex : PageFile D g → PageFile D g → List ℕ → ℕ → Type 0
   FindsIndex old new name root =
-      IsFaithful new → (t : Tables) (db : Trees) (known : List ℕ) → IsStoreOf old t db known
+      IsFaithful new → (db : Trees) (known : List ℕ) → IsStoreOf old db known
       → (at : ℕ) (index : Index) → slice_get schema_two.indexes at ≡ Some index → index.name ≡ name → root ≡ slice_index known index.tree

@@ -2,7 +2,6 @@
 ghost use Rattle.std.specs.Prelude.{◌≡◌, ℕ, List, IfErr, IfOk, OnOk};
 ghost use Rattle.sqlite_trees.specs.Tree.{Trees};
 ghost use Rattle.page_files.specs.Files.{IsFaithful, IsUsable, OnlyReads};
-ghost use Rattle.plain_tables.specs.Tables.{Tables};
 ghost use Rattle.store_schema.specs.Schema.{schema_two};
 ghost use Rattle.page_places.specs.Roots.{AreFound, AreNames, AreRoots, FailsInStore, FindsIndex, FindsTable, IsStoreOf, MissesIndex, MissesTable};
 ghost use Rattle.page_places.specs.Roots.{index_name, index_tree, table_name, table_tree};
@@ -114,8 +113,8 @@ fn table_roots<D: Disk>(
     alloc: Global,
     names: &[&str; 11],
 ) -> Result<[u32; 11], StoreError>
-    ensures found { AreNames schema_two.tables table_name names.now → IsFaithful file.new → (t : Tables) (db : Trees) (known : List ℕ)
-        → IsStoreOf file.old t db known → IfOk result (λ roots. AreFound schema_two.tables table_tree known roots 11) }
+    ensures found { AreNames schema_two.tables table_name names.now → IsFaithful file.new → (db : Trees) (known : List ℕ)
+        → IsStoreOf file.old db known → IfOk result (λ roots. AreFound schema_two.tables table_tree known roots 11) }
     ensures failed { AreNames schema_two.tables table_name names.now → IfErr result (FailsInStore file.old file.new) }
     ensures reads { OnlyReads file.old file.new }
     ensures usable { OnOk result (IsUsable file.new) }
@@ -133,8 +132,8 @@ fn index_roots<D: Disk>(
     alloc: Global,
     names: &[&str; 12],
 ) -> Result<[u32; 12], StoreError>
-    ensures found { AreNames schema_two.indexes index_name names.now → IsFaithful file.new → (t : Tables) (db : Trees) (known : List ℕ)
-        → IsStoreOf file.old t db known → IfOk result (λ roots. AreFound schema_two.indexes index_tree known roots 12) }
+    ensures found { AreNames schema_two.indexes index_name names.now → IsFaithful file.new → (db : Trees) (known : List ℕ)
+        → IsStoreOf file.old db known → IfOk result (λ roots. AreFound schema_two.indexes index_tree known roots 12) }
     ensures failed { AreNames schema_two.indexes index_name names.now → IfErr result (FailsInStore file.old file.new) }
     ensures reads { OnlyReads file.old file.new }
     ensures usable { OnOk result (IsUsable file.new) }
@@ -179,7 +178,7 @@ fn roots_of(tables: &[u32; 11], indexes: &[u32; 12]) -> StoreRoots
 
 /// Finds the tables and indexes. `Store` where one is not there, or pages cannot be read; `Memory`.
 pub fn find_roots<D: Disk>(file: &mut PageFile<D>, alloc: Global) -> Result<StoreRoots, StoreError>
-    ensures found { IsFaithful file.new → (t : Tables) (db : Trees) (known : List ℕ) → IsStoreOf file.old t db known → IfOk result (AreRoots known) }
+    ensures found { IsFaithful file.new → (db : Trees) (known : List ℕ) → IsStoreOf file.old db known → IfOk result (AreRoots known) }
     ensures failed { IfErr result (FailsInStore file.old file.new) }
     ensures reads { OnlyReads file.old file.new }
     ensures usable { OnOk result (IsUsable file.new) }

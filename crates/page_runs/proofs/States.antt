@@ -25,7 +25,7 @@ use Rattle.page_runs.specs.Kept.{AreKept}
 use Rattle.page_runs.specs.States.{IsFaithful, IsSettled, Left, Represents, ShowsTables, kept, may_leave, state_of}
 use Rattle.page_runs.specs.declared.store.PageRuns.{PageRuns}
 use Rattle.page_files.proofs.Reading.{OnlyReads-refl}
-use Rattle.page_lists.proofs.Shows.{same_store}
+use Rattle.page_lists.proofs.Shows.{same_stands}
 
 -- an error is no answer
 pub none_answered : {T E P : Type 0} (r : Result T E) → IsErr r → IsTrue (is_ok r) → P
@@ -48,12 +48,14 @@ module _ {D : Type 0} {g : Ghosts D} where
   pub shown_same : (old new : PageRuns D g) → page_size new.file ≡ page_size old.file → pages_of new.file ≡ pages_of old.file → new.lists ≡ old.lists → new.roots ≡ old.roots
       → (t : Tables) → AreKept t new.kept_cells → ShowsTables t old → ShowsTables t new
   shown_same old new size pages lists roots t kept is = record {
+    wanted = is.wanted;
     known = is.known;
-    stored = same_store old.file new.file size pages is.stored;
+    db = is.db;
+    stands = same_stands old.file new.file size pages is.stands;
+    says = is.says;
     roots = subst (AreRoots is.known) (sym roots) is.roots;
     listed = subst (AreListed t) (sym lists) is.listed;
     kept_cells = kept;
-    ordered = is.ordered;
   }
 
   -- a file that shows the same pages, commits nothing, and rests on what it rested on, if it can be used

@@ -14,16 +14,19 @@ use Rattle.sqlite_store.specs.declared.catalog.Wanted.{Wanted}
 use Rattle.page_files.specs.Files as files
 use Rattle.page_files.specs.Files.{page_size, pages_of}
 use Rattle.page_files.specs.Held.{Rests}
+use Rattle.page_files.specs.Trees.{StandsIn}
+use Rattle.page_lists.specs.Walks.{InOrder}
 use Rattle.plain_tables.specs.Tables.{Tables}
 use Rattle.run_lists.specs.Listed.{AreListed}
 use Rattle.run_stores.specs.Order.{AreInOrder}
-use Rattle.store_schema.specs.Schema.{schema_two}
+use Rattle.prof_store.specs.Readings.{RowsSay}
+use Rattle.store_schema.specs.Schema.{schema_two, arc_at, stack_at, thread_cell_at}
 use Rattle.store_schema.specs.Tables.{Holds}
 use Rattle.store_schema.proofs.Sound.{sound_of}
-use Rattle.held_lines.proofs.Apart.{apart_held}
+use Rattle.held_lines.proofs.Apart.{apart_named}
 use Rattle.run_stores.specs.declared.states.StoreState.{Ghosts as StoreGhosts}
 use Rattle.page_places.specs.Roots.{AreRoots}
-use Rattle.page_places.specs.Stores.{ShowsStore}
+use Rattle.page_places.specs.Stores.{HoldsNames}
 use Rattle.page_runs.specs.Kept.{AreKept}
 use Rattle.page_runs.specs.declared.store.PageRuns.{PageRuns}
 
@@ -47,6 +50,24 @@ held_by t size image left same is = record {
   ordered = is.ordered;
 }
 
+-- the rows of runs stand in the order of the runs
+pub record AreRowsInOrder (db : Trees) : Type 0 where
+  pub cells : InOrder (db thread_cell_at.tree)
+  pub calls : InOrder (db arc_at.tree)
+  pub stacks : InOrder (db stack_at.tree)
+
+-- whoever wrote the rows of a database, they say these, each name in form, and those of runs in the order of the runs
+pub record SaysRows (t : Tables) (db : Trees) : Type 0 where
+  pub says : RowsSay t db
+  pub names : HoldsNames t db
+  pub in_order : AreRowsInOrder db
+
+-- files hold such a database
+pub record SaysTables (t : Tables) (left : Left) : Type 0 where
+  pub db : Trees
+  pub at : HoldsAt left.0 left.1 db
+  pub says : SaysRows t db
+
 -- the pages as they are read, and as they are committed
 abbrev pub Kept : Type 0
 Kept = PageMap × PageMap
@@ -56,14 +77,16 @@ abbrev pub IsSettled : Kept → Type 0
 IsSettled kept = kept.0 ≡ kept.1
 
 module _ {D : Type 0} {g : Ghosts D} where
-  -- its file shows a store of these rows, its tables and indexes under these roots, and the rows of runs in the order of the runs; what is kept is of them
+  -- its file shows a store whose rows say these, its tables and indexes under these roots; what is kept is of them
   pub record ShowsTables (t : Tables) (store : PageRuns D g) : Type 0 where
+    pub wanted : List Wanted
     pub known : List ℕ
-    pub stored : ShowsStore t known store.file
+    pub db : Trees
+    pub stands : StandsIn wanted known db store.file
+    pub says : SaysRows t db
     pub roots : AreRoots known store.roots
     pub listed : AreListed t store.lists
     pub kept_cells : AreKept t store.kept_cells
-    pub ordered : AreInOrder t
 
   abbrev pub IsFaithful : PageRuns D g → Type 0
   IsFaithful store = files.IsFaithful store.file
@@ -78,7 +101,7 @@ module _ {D : Type 0} {g : Ghosts D} where
   abbrev pub may_leave : PageRuns D g → Left → Type 0
   may_leave store left = (left.0 ≡ page_size store.file) × ((image : Image) × files.may_leave store.file image × RecoversAs (page_size store.file) image left.1)
 
-  -- it can be used, has written nothing, and is read as these rows
+  -- it can be used, has written nothing, and is read as these rows, whoever wrote them
   pub record ReadsAs (t : Tables) (store : PageRuns D g) : Type 0 where
     pub usable : files.IsUsable store.file
     pub settled : IsSettled (kept store)
@@ -98,6 +121,10 @@ module _ {D : Type 0} {g : Ghosts D} where
   -- it represents the rows that an image of its files holds
   abbrev pub RepresentsImage : Image → PageRuns D g → Type 0
   RepresentsImage image store = (t : Tables) → HoldsTables t (page_size store.file, image) → Represents t store
+
+  -- it is read as the rows that an image of its files says
+  abbrev pub ReadsImage : Image → PageRuns D g → Type 0
+  ReadsImage image store = (t : Tables) → SaysTables t (page_size store.file, image) → ReadsAs t store
 
   -- what a crash may leave holds the rows that it represents
   pub survives : (t : Tables) (store : PageRuns D g) (left : Left) → Represents t store → may_leave store left → HoldsTables t left
@@ -130,7 +157,7 @@ module _ {D : Type 0} {g : Ghosts D} where
     usable = λ t s represents. represents.reads.usable;
     said = λ t s represents. represents.reads;
     readable = λ t s reads. reads.usable;
-    apart = λ t s reads. apart_held t reads.shows.stored.db reads.shows.stored.holds;
+    apart = λ t s reads. apart_named t reads.shows.db reads.shows.says.names.sound reads.shows.says.names.names_are;
     sound = λ t s represents. sound_of t represents.db represents.holds;
     left_sound = λ t left holds. sound_of t holds.db holds.holds;
   }

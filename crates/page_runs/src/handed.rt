@@ -7,6 +7,7 @@ ghost use Rattle.plain_tables.specs.Tables.{Tables, StoredCell as Cell, StoredCa
 ghost use Rattle.run_stores.specs.Book.{stacks_held};
 ghost use Rattle.run_stores.specs.Walks.{CallsFoldTo, CellsFoldTo, cell_numbers};
 ghost use Rattle.store_schema.specs.Lines.{call_row, cell_row, held_stack};
+ghost use Rattle.store_schema.specs.Schema.{arc_at, stack_at, thread_cell_at};
 ghost use Rattle.store_schema.specs.Tables.{number, cell_columns, arc_columns, stack_columns};
 ghost use Rattle.page_runs.specs.Kept.{HasGathered};
 ghost use Rattle.page_runs.specs.PartSums.{SumTo};
@@ -218,7 +219,7 @@ pub(crate) fn each_cell<D: Disk, T: CellSink + Drop>(
     events: usize,
     sink: T,
 ) -> Result<(T, Gathered), StoreError>
-    ensures told { IsFaithful file.new → (t : Tables) → ShowsLines file.old table.root cell_columns (λ (c : Cell). c.run) t.cells
+    ensures told { IsFaithful file.new → (t : Tables) → ShowsLines file.old table.root thread_cell_at cell_columns t.cells
         → IfOk result (λ r. CellsFoldTo events T.step (T.meaning sink) (T.meaning r.0) (cells_in table.run t)
         × SumTo (λ (c : Cell). c.event) (λ (c : Cell). c.cost) (cells_in table.run t) table.sums.items × HasGathered (cells_in table.run t) r.1) }
     ensures reads { OnlyReads file.old file.new }
@@ -240,7 +241,7 @@ pub(crate) fn each_call<D: Disk, T: CallSink + Drop>(
     events: usize,
     sink: T,
 ) -> Result<T, StoreError>
-    ensures told { IsFaithful file.new → (t : Tables) → ShowsLines file.old table.root arc_columns (λ (a : Call). a.run) t.calls
+    ensures told { IsFaithful file.new → (t : Tables) → ShowsLines file.old table.root arc_at arc_columns t.calls
         → IfOk result (λ taken. CallsFoldTo events T.step (T.meaning sink) (T.meaning taken) (calls_in table.run t)
         × SumTo (λ (a : Call). a.part) (λ (a : Call). a.sum) (calls_in table.run t) table.sums.items) }
     ensures reads { OnlyReads file.old file.new }
@@ -258,7 +259,7 @@ pub(crate) fn each_stack<D: Disk, T: StackRowSink + Drop>(
     hints: &mut Hints,
     sink: T,
 ) -> Result<T, StoreError>
-    ensures told { IsFaithful file.new → (t : Tables) → ShowsLines file.old table.root stack_columns (λ (s : Stack). s.run) t.stacks
+    ensures told { IsFaithful file.new → (t : Tables) → ShowsLines file.old table.root stack_at stack_columns t.stacks
         → IfOk result (λ taken. (T.meaning taken ≡ fold T.step (T.meaning sink) (stacks_held table.run t))
         × SumTo (λ _. 0) (λ (s : Stack). s.count) (stacks_in table.run t) table.sums.items) }
     ensures reads { OnlyReads file.old file.new }

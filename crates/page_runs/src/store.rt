@@ -12,7 +12,7 @@ ghost use Rattle.run_lists.specs.RowSums.{calls_of_run, cells_of_run, stacks_of_
 ghost use Rattle.page_runs.specs.Finished.{Commits, Finishes};
 ghost use Rattle.page_runs.specs.PartSums.{IsRunTable};
 ghost use Rattle.page_lists.specs.Sizes.{IsSizeOf};
-ghost use Rattle.page_runs.specs.States.{IsFaithful, RepresentsImage, state_of};
+ghost use Rattle.page_runs.specs.States.{IsFaithful, ReadsImage, RepresentsImage, state_of};
 ghost use Rattle.run_stores.specs.Calls.{Asks};
 ghost use Rattle.std.specs.Result.{is_ok};
 
@@ -76,6 +76,7 @@ impl<D: Disk + Drop> PageRuns<D> {
         ensures honest { IfOk result (λ store. IsFaithful store → AreClean D.Disk files.log files.db) }
         ensures size { IfOk result (λ store. IsFaithful store → IsSizeOf (seen_image D.Disk files.log files.db) (page_size store.file)) }
         ensures represents { IfOk result (λ store. IsFaithful store → RepresentsImage (seen_image D.Disk files.log files.db) store) }
+        ensures reads { IfOk result (λ store. IsFaithful store → ReadsImage (seen_image D.Disk files.log files.db) store) }
         ensures crash { IfOk result (λ store. AddsNothing (page_size store.file) (outcomes D.Disk files.log files.db) (files_may_leave store.file)) }
         ensures keeps { IfOk result (λ store. store.kept_cells.limit ≡ cells_to_keep) }
     {
@@ -226,7 +227,7 @@ impl<D: Disk> PageRuns<D> {
 impl<D: Disk> StoreState for PageRuns<D> {
     ghost use Rattle.sqlite_pool.specs.Pool as pools;
     ghost use Rattle.store_schema.proofs.Sound.{sound_of};
-    ghost use Rattle.held_lines.proofs.Apart.{apart_held};
+    ghost use Rattle.held_lines.proofs.Apart.{apart_named};
     ghost use Rattle.page_runs.specs.States.{HoldsTables, IsFaithful, IsSettled, Kept as KeptPages, Left, ReadsAs, Represents, faults, kept, may_leave};
 
     ghost Kept = { KeptPages };
@@ -257,7 +258,7 @@ impl<D: Disk> StoreState for PageRuns<D> {
 
     ghost readable = { λ t s reads. reads.usable };
 
-    ghost apart = { λ t s reads. apart_held t reads.shows.stored.db reads.shows.stored.holds };
+    ghost apart = { λ t s reads. apart_named t reads.shows.db reads.shows.says.names.sound reads.shows.says.names.names_are };
 
     ghost sound = { λ t s represents. sound_of t represents.db represents.holds };
 

@@ -27,7 +27,7 @@ use Rattle.store_schema.proofs.Values.{blobs_equal}
 use Rattle.store_schema.specs.Seen.{is_at}
 use Rattle.plain_tables.specs.Tables.{Tables}
 use Rattle.store_schema.specs.Tables.{meta_columns, run_columns, event_columns, derived_columns, coef_columns, name_columns, cell_columns, arc_columns, stack_columns, group_columns, member_columns, number}
-use Rattle.prof_store.specs.Readings.{as_read, row_read, IsSaidBy}
+use Rattle.prof_store.specs.Readings.{as_read, row_read, IsSaidBy, Says, SaysBehind}
 
 -- ---- values
 
@@ -129,13 +129,6 @@ module _ (far : ℕ → ℕ) (r : Row) (at : ℕ) where
   blob_at a b is = ap (λ v. is_true (binary (Compare Eq Binary) v (Blob b))) (blob_read far (column r at) a is) ∙ blobs_equal a b
 
 -- ---- rows and lines, one beside another
-
--- a row with a key that is read as these columns, and one behind a rowid
-abbrev pub Says : {X : Type 0} → (ℕ → ℕ) → Table → (X → Row) → Row → X → Type 0
-Says far table columns r x = row_read far table r ≡ columns x
-
-abbrev pub SaysBehind : {X : Type 0} → (ℕ → ℕ) → Table → (X → Row) → Row → X → Type 0
-SaysBehind far table columns r x = (id : Value) × (row_read far table r ≡ id ∷ columns x)
 
 all_say : {X : Type 0} (far : ℕ → ℕ) (table : Table) (columns : X → Row) (rows : List Row) (xs : List X) → map (row_read far table) rows ≡ map columns xs → AllZip (Says far table columns) rows xs
 all_say far table columns [] [] h = tt

@@ -12,9 +12,9 @@ use Rattle.plain_tables.specs.Tables.{Tables, StoredCell, StoredCall, StoredStac
 use Rattle.store_schema.specs.Tables.{cell_columns, arc_columns, stack_columns, number}
 use Rattle.store_schema.specs.WalkTexts.{cells_of, calls_of, stacks_of}
 use Rattle.store_schema.proofs.RunRows.{one_cell, one_call, one_stack}
-use Rattle.prof_store.specs.Readings.{as_read, IsSaidBy, RowsSay}
+use Rattle.prof_store.specs.Readings.{as_read, IsSaidBy, RowsSay, SaysBehind}
 use Rattle.prof_store.proofs.Listing.{map_injective}
-use Rattle.prof_store.proofs.Readings.{SaysBehind, number_at, picked_said, shown_read, values_read, cells_said, calls_said, stacks_said}
+use Rattle.prof_store.proofs.Readings.{number_at, picked_said, shown_read, values_read, cells_said, calls_said, stacks_said}
 
 module _ (t : Tables) (db : Trees) (was : IsSaidBy t db) where
   -- a row of a run, by the column behind its rowid

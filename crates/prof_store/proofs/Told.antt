@@ -26,13 +26,13 @@ use Rattle.run_stores.specs.Totals.{held_self, held_calls, held_count}
 use Rattle.prof_store.specs.Digests.{IsRowOf}
 use Rattle.run_stores.specs.Lookups.{IsRunOf}
 use Rattle.prof_store.specs.Groups.{AreGroupsIn, AreMembersIn}
-use Rattle.prof_store.specs.Readings.{as_read, row_read, IsSaidBy, RowsSay}
+use Rattle.prof_store.specs.Readings.{as_read, row_read, IsSaidBy, RowsSay, Says, SaysBehind}
 use Rattle.prof_store.specs.Totals.{number_in, IsNumber, HasNumbers, IsSum, IsSumAt, IsSumIn, rows_named}
 use Rattle.prof_store.specs.declared.totals.EventSums.{EventSums}
 use Rattle.prof_store.proofs.HeldSums.{sum_by-map, sum_by-same}
 use Rattle.prof_store.proofs.Listing.{read_back, group_back, group_read, member_back, member_read}
 use Rattle.prof_store.proofs.Members.{kit_has, plain_has}
-use Rattle.prof_store.proofs.Readings.{Says, SaysBehind, values_read, blob_read, number_at, text_at, blob_at, any_said, picked_said, seen_said, line_of_row, row_of_line, length_said, permutes_read, meta_said, runs_rise, runs_said, event_entries, groups_said, members_said}
+use Rattle.prof_store.proofs.Readings.{values_read, blob_read, number_at, text_at, blob_at, any_said, picked_said, seen_said, line_of_row, row_of_line, length_said, permutes_read, meta_said, runs_rise, runs_said, event_entries, groups_said, members_said}
 
 -- ---- sums
 

@@ -33,6 +33,13 @@ places_from at (c ∷ cs) = at ∷ places_from (suc at) cs
 abbrev pub row_read : (ℕ → ℕ) → Table → Row → Row
 row_read far table r = map (λ at. as_read far (column r at)) (0 ∷ places_from 1 table.columns)
 
+-- a row with a key is so read as these columns, and one behind a rowid
+abbrev pub Says : {X : Type 0} → (ℕ → ℕ) → Table → (X → Row) → Row → X → Type 0
+Says far table columns r x = row_read far table r ≡ columns x
+
+abbrev pub SaysBehind : {X : Type 0} → (ℕ → ℕ) → Table → (X → Row) → Row → X → Type 0
+SaysBehind far table columns r x = (id : Value) × (row_read far table r ≡ id ∷ columns x)
+
 -- the rows of a table, so read, are these
 pub record IsReadAs (far : ℕ → ℕ) (table : Table) (content : List Row) (rows : List Row) : Type 0 where
   pub numbered : IsShaped shape.Table rows

@@ -13,6 +13,7 @@ use Rattle.sqlite_value.specs.declared.value.Value.TheVariants.{Blob}
 use Rattle.sqlite_value.proofs.OrderLemmas.{value_cmp-Int}
 use Rattle.sqlite_trees.specs.Tree.{Trees}
 use Rattle.sqlite_sql.specs.Ops.{binary, is_true, from_truth}
+use Rattle.sqlite_catalog.specs.Listing.{IsSound}
 use Rattle.sqlite_schema.specs.declared.schema.Constraint.TheVariants.{Unique}
 use Rattle.sqlite_schema.specs.Rules.{passes as obeys, clashes, differ, agree}
 use Rattle.sqlite_rules.specs.Lists.{Has}
@@ -57,14 +58,14 @@ unfolding first_key
 agrees a b = and_true _ ∙ blobs_equal a.name b.name
 
 -- lines of one name have one number
-same_number : (t : Tables) (db : Trees) → Holds t db → (a b : NameRow) → Has t.names a → Has t.names b → bytes_eq a.name b.name ≡ true → a.number ≡ b.number
-same_number t db h a b has_a has_b same = go (eqb a.number b.number) refl
+same_number : (t : Tables) (db : Trees) → IsSound schema_two db → db 11 ≡ map name_columns t.names → (a b : NameRow) → Has t.names a → Has t.names b → bytes_eq a.name b.name ≡ true → a.number ≡ b.number
+same_number t db sound rows_are a b has_a has_b same = go (eqb a.number b.number) refl
   where
     at : (line : NameRow) → Has t.names line → Has (db 11) (name_columns line)
-    at line there = subst (λ rows. Has rows (name_columns line)) (sym (name_rows t db h)) (mapped_has name_columns t.names line there)
+    at line there = subst (λ rows. Has rows (name_columns line)) (sym rows_are) (mapped_has name_columns t.names line there)
 
     alone : not (clashes plain (2 ∷ []) (db 11) (name_columns b)) ≡ true
-    alone = unclashed db (name_columns b) (all_has _ (db 11) (name_columns b) (h.contain.sound.obeys.rules Unique).1.1.1.1.1.0 (at b has_b))
+    alone = unclashed db (name_columns b) (all_has _ (db 11) (name_columns b) (sound.obeys.rules Unique).1.1.1.1.1.0 (at b has_b))
 
     go : (c : Bool) → eqb a.number b.number ≡ c → a.number ≡ b.number
     go true e = grind (arith, nat_tests)
@@ -83,11 +84,14 @@ number_of_line (first ∷ lines) name line one there is = go (bytes_eq first.nam
     go false e (inl same) more = absurd (let bad : false ≡ true = sym e ∙ ap (λ (l : NameRow). bytes_eq l.name name) (sym same) ∙ is in cc)
     go false e (inr later) more = more later
 
--- the name of a line is held, and has the line's number
-pub line_is_held : (t : Tables) (db : Trees) → Holds t db → (line : NameRow) → Has t.names line → (has_name t line.name ≡ true) × (number_in t.names line.name ≡ line.number)
-line_is_held t db was line there =
+-- the name of a line is held, and has the line's number, whatever stands in the other tables of a sound database
+pub line_named : (t : Tables) (db : Trees) → IsSound schema_two db → db 11 ≡ map name_columns t.names → (line : NameRow) → Has t.names line → (has_name t line.name ≡ true) × (number_in t.names line.name ≡ line.number)
+line_named t db sound rows_are line there =
     let itself = (bytes_eq-Decides line.name line.name).1 refl in
-    (some_from _ t.names line there itself, number_of_line t.names line.name line (λ a h e. same_number t db was a line h there e) there itself)
+    (some_from _ t.names line there itself, number_of_line t.names line.name line (λ a h e. same_number t db sound rows_are a line h there e) there itself)
+
+pub line_is_held : (t : Tables) (db : Trees) → Holds t db → (line : NameRow) → Has t.names line → (has_name t line.name ≡ true) × (number_in t.names line.name ≡ line.number)
+line_is_held t db was = line_named t db was.contain.sound (name_rows t db was)
 
 -- names that equal a third are equal
 equal_both : (a b c : List ℕ) → bytes_eq a c ≡ true → bytes_eq b c ≡ true → bytes_eq a b ≡ true
@@ -105,7 +109,7 @@ module _ (t : Tables) (db : Trees) (was : Holds t db) (name : List ℕ) where
       let r = shown_row 11 id_of_name_terms id_of_name_shown id_of_name_order (db 11) (Blob name ∷ []) answer s row there in
       let l = has_mapped name_columns t.names r.0 (subst (λ rows. Has rows r.0) (name_rows t db was) r.1) in
       let is : bytes_eq l.0.name name ≡ true = sym (name_passes name l.0) ∙ ap (passes (Blob name ∷ []) id_of_name_terms) (sym l.2) ∙ r.2 in
-      let same = number_of_line t.names name l.0 (λ a h e. same_number t db was a l.0 h l.1 (equal_both a.name l.0.name name e is)) l.1 is in
+      let same = number_of_line t.names name l.0 (λ a h e. same_number t db was.contain.sound (name_rows t db was) a l.0 h l.1 (equal_both a.name l.0.name name e is)) l.1 is in
       (some_from _ t.names l.0 l.1 is, ap (λ o. column o 0) r.3 ∙ ap (λ o. column o 0) l.2 ∙ ap number (sym same))
 
   -- where there is no row the name is not held

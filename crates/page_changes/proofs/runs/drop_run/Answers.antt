@@ -36,7 +36,7 @@ returns-in_err-roots-clause-done g c faithful = λ wanted known db t rests holds
     let old = c.args.file.now in
     let new = c.find_roots.new.file in
     let p = err_from_is_err_and c.from_residual.result c.from_residual.ensures.1 in
-    let why = c.in_err-roots.ensures.failed faithful t db known (store_resting old t db known wanted rests holds) in
+    let why = c.in_err-roots.ensures.failed faithful db known (store_resting old db known wanted rests holds.contain.sound) in
     rw (p.1, p.2) (reading_fails old new why.0 _ why.2 c.find_roots.ensures.reads.keeps rests.clean.is_open faithful why.1)
 
 pub returns-in_err-drop_events-clause-done : goal.returns-in_err-drop_events-clause-done
@@ -44,7 +44,7 @@ returns-in_err-drop_events-clause-done g c faithful = λ wanted known db t rests
     let old = c.args.file.now in
     let read = c.find_roots.new.file in
     let before = c.drop_events.ensures.keeps.stays.clean faithful in
-    let roots = c.in_ok-roots.ensures.found before t db known (store_resting old t db known wanted rests holds) in
+    let roots = c.in_ok-roots.ensures.found before db known (store_resting old db known wanted rests holds.contain.sound) in
     let w = begins read (rests_after old read c.find_roots.ensures.reads before c.in_ok-roots.ensures.usable rests) in
     let p = err_from_is_err_and c.from_residual-in_err-drop_events.result c.from_residual-in_err-drop_events.ensures.1 in
     rw (p.1, p.2) (store_fails_later old read c.drop_events.new.file _ c.find_roots.ensures.reads.keeps (λ _. tt) (c.in_err-drop_events.ensures.done faithful wanted known db db t w holds roots))
@@ -57,7 +57,7 @@ returns-in_err-drop_costs-clause-done g c faithful = λ wanted known db t rests 
     let before = c.drop_events.ensures.keeps.stays.clean after_one in
     let keeps = Keeps-trans _ _ _ c.find_roots.ensures.reads.keeps c.drop_events.ensures.keeps in
     let p = err_from_is_err_and c.from_residual-in_err-drop_costs.result c.from_residual-in_err-drop_costs.ensures.1 in
-    rw (p.1, p.2) (so_by (c.in_ok-roots.ensures.found before t db known (store_resting old t db known wanted rests holds)) (λ roots.
+    rw (p.1, p.2) (so_by (c.in_ok-roots.ensures.found before db known (store_resting old db known wanted rests holds.contain.sound)) (λ roots.
     so_by_parts (c.in_ok-drop_events.ensures.done after_one wanted known db db t (begins read (rests_after old read c.find_roots.ensures.reads before c.in_ok-roots.ensures.usable rests)) holds roots) (λ now_0 writes_0 holds_0.
     store_fails_later old c.drop_events.new.file c.drop_costs.new.file _ keeps (λ _. tt) (c.in_err-drop_costs.ensures.done faithful wanted known db now_0 _ writes_0 holds_0 roots))))
 
@@ -70,7 +70,7 @@ returns-in_err-drop_members-clause-done g c faithful = λ wanted known db t rest
     let before = c.drop_events.ensures.keeps.stays.clean after_one in
     let keeps = Keeps-trans _ _ _ (Keeps-trans _ _ _ c.find_roots.ensures.reads.keeps c.drop_events.ensures.keeps) c.drop_costs.ensures.keeps in
     let p = err_from_is_err_and c.from_residual-in_err-drop_members.result c.from_residual-in_err-drop_members.ensures.1 in
-    rw (p.1, p.2) (so_by (c.in_ok-roots.ensures.found before t db known (store_resting old t db known wanted rests holds)) (λ roots.
+    rw (p.1, p.2) (so_by (c.in_ok-roots.ensures.found before db known (store_resting old db known wanted rests holds.contain.sound)) (λ roots.
     so_by_parts (c.in_ok-drop_events.ensures.done after_one wanted known db db t (begins read (rests_after old read c.find_roots.ensures.reads before c.in_ok-roots.ensures.usable rests)) holds roots) (λ now_0 writes_0 holds_0.
     so_by_parts (c.in_ok-drop_costs.ensures.done after_two wanted known db now_0 _ writes_0 holds_0 roots) (λ now_1 writes_1 holds_1.
     store_fails_later old c.drop_costs.new.file c.drop_members.new.file _ keeps (λ _. tt) (c.in_err-drop_members.ensures.done faithful wanted known db now_1 _ writes_1 holds_1 roots)))))
@@ -85,7 +85,7 @@ returns-in_err-clear_baselines-clause-done g c faithful = λ wanted known db t r
     let before = c.drop_events.ensures.keeps.stays.clean after_one in
     let keeps = Keeps-trans _ _ _ (Keeps-trans _ _ _ (Keeps-trans _ _ _ c.find_roots.ensures.reads.keeps c.drop_events.ensures.keeps) c.drop_costs.ensures.keeps) c.drop_members.ensures.keeps in
     let p = err_from_is_err_and c.from_residual-in_err-clear_baselines.result c.from_residual-in_err-clear_baselines.ensures.1 in
-    rw (p.1, p.2) (so_by (c.in_ok-roots.ensures.found before t db known (store_resting old t db known wanted rests holds)) (λ roots.
+    rw (p.1, p.2) (so_by (c.in_ok-roots.ensures.found before db known (store_resting old db known wanted rests holds.contain.sound)) (λ roots.
     so_by_parts (c.in_ok-drop_events.ensures.done after_one wanted known db db t (begins read (rests_after old read c.find_roots.ensures.reads before c.in_ok-roots.ensures.usable rests)) holds roots) (λ now_0 writes_0 holds_0.
     so_by_parts (c.in_ok-drop_costs.ensures.done after_two wanted known db now_0 _ writes_0 holds_0 roots) (λ now_1 writes_1 holds_1.
     so_by_parts (c.in_ok-drop_members.ensures.done after_three wanted known db now_1 _ writes_1 holds_1 roots) (λ now_2 writes_2 holds_2.
@@ -101,7 +101,7 @@ returns-clause-done g c faithful = λ wanted known db t rests holds listed.
     let after_one = c.drop_costs.ensures.keeps.stays.clean after_two in
     let before = c.drop_events.ensures.keeps.stays.clean after_one in
     let keeps = Keeps-trans _ _ _ (Keeps-trans _ _ _ (Keeps-trans _ _ _ (Keeps-trans _ _ _ c.find_roots.ensures.reads.keeps c.drop_events.ensures.keeps) c.drop_costs.ensures.keeps) c.drop_members.ensures.keeps) c.clear_baselines.ensures.keeps in
-    so_by (c.in_ok-roots.ensures.found before t db known (store_resting old t db known wanted rests holds)) (λ roots.
+    so_by (c.in_ok-roots.ensures.found before db known (store_resting old db known wanted rests holds.contain.sound)) (λ roots.
     so_by_parts (c.in_ok-drop_events.ensures.done after_one wanted known db db t (begins read (rests_after old read c.find_roots.ensures.reads before c.in_ok-roots.ensures.usable rests)) holds roots) (λ now_0 writes_0 holds_0.
     so_by_parts (c.in_ok-drop_costs.ensures.done after_two wanted known db now_0 _ writes_0 holds_0 roots) (λ now_1 writes_1 holds_1.
     so_by_parts (c.in_ok-drop_members.ensures.done after_three wanted known db now_1 _ writes_1 holds_1 roots) (λ now_2 writes_2 holds_2.

@@ -41,7 +41,7 @@ returns-clause-done g c clean = λ wanted known db t rests holds new.
     let content = content_of summed.rows.now in
     let lines = c.in_ok-lines.lines in
     let after = c.put_contents.ensures.keeps.stays.clean clean in
-    let are = c.in_ok-roots.ensures.found after t db known (store_resting file t db known wanted rests holds) in
+    let are = c.in_ok-roots.ensures.found after db known (store_resting file db known wanted rests holds.contain.sound) in
     let shows : ShowsTables wanted known db t mid = record { next = db; writes = begins mid (rests_after file mid c.find_roots.ensures.reads after c.in_ok-roots.ensures.usable rests); holds = holds } in
     let of_run = head_of_run n head content in
     let events = c.in_ok-lines.ensures.events content summed.summed in
@@ -80,7 +80,7 @@ returns-in_err-roots-clause-done g c clean = λ wanted known db t rests holds ne
     let file = c.args.file.now in
     let read = c.find_roots.new.file in
     let p = err_from_is_err_and c.from_residual.result c.from_residual.ensures.1 in
-    let why = c.in_err-roots.ensures.failed clean t db known (store_resting file t db known wanted rests holds) in
+    let why = c.in_err-roots.ensures.failed clean db known (store_resting file db known wanted rests holds.contain.sound) in
     rw (p.1, p.2) (reading_fails file read why.0 _ why.2 c.find_roots.ensures.reads.keeps rests.clean.is_open clean why.1)
 
 pub returns-in_err-lines-clause-complete : goal.returns-in_err-lines-clause-complete

@@ -8,7 +8,7 @@ use Rattle.page_files.proofs.Reading.{OnlyReads-refl}
 use Rattle.page_places.specs.Failures.{FailsToStore}
 use Rattle.page_places.specs.Names.{FailsToFind}
 use Rattle.page_places.proofs.Failing.{reading_fails}
-use Rattle.page_places.proofs.Stores.{shows_writing}
+use Rattle.page_places.proofs.Stores.{names_writing}
 use Rattle.plain_tables.specs.Files.{number_in}
 use Rattle.plain_tables.specs.Tables.{Tables}
 use Rattle.plain_tables.specs.declared.errors.StoreError.{StoreError}
@@ -37,4 +37,4 @@ returns-clause-told g c clean = λ wanted known was t shows are.
     let file = c.args.file.now in
     let new = c.find_name.new.file in
     found_in c.find_name.result _ _ _ _ (not_found file new c.find_name.ensures.reads.keeps shows.writes.is_open clean t)
-    (c.find_name.ensures.told clean t known (shows_writing file shows.writes shows.holds) are.name_bytes)
+    (c.find_name.ensures.told clean t known (names_writing file shows.writes shows.holds) are.name_bytes)

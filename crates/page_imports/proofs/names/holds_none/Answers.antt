@@ -18,7 +18,7 @@ returns-in-Ok-None-clause-told g c clean = λ wanted known was t shows are _.
     let file = c.args.file.now in
     let now = shows.next in
     let stands = stands_writing file shows.writes in
-    let placed = placed_at wanted now (catalog_shown file stands) shows.holds 5 name_at refl in
+    let placed = placed_at wanted now (catalog_shown file stands) shows.holds.contain.sound 5 name_at refl in
     let table = table_stands file stands 11 placed.low _ placed.named.shape placed.plain are.names in
     let none = subst (IsLastRowid (trees_of wanted file 11)) c.in-Ok-None.field-0-is (c.in-Ok-None.ensures.done clean wanted 11 table) in
     none_mapped _ t.names (sym (content_there schema_two.tables (contents_of t) now 5 name_at refl shows.holds.contain.contents_are).rows_are ∙ sym (tree_shown file stands 11 placed.low) ∙ none)
@@ -27,6 +27,6 @@ pub returns-in-Err-clause-told : goal.returns-in-Err-clause-told
 returns-in-Err-clause-told g c clean = λ wanted known was t shows are.
     let file = c.args.file.now in
     let stands = stands_writing file shows.writes in
-    let placed = placed_at wanted shows.next (catalog_shown file stands) shows.holds 5 name_at refl in
+    let placed = placed_at wanted shows.next (catalog_shown file stands) shows.holds.contain.sound 5 name_at refl in
     let table = table_stands file stands 11 placed.low _ placed.named.shape placed.plain are.names in
     reading_fails file c.last_rowid.new.self c.in-Err.error _ c.error_of.ensures c.last_rowid.ensures.reads.keeps shows.writes.is_open clean (c.in-Err.ensures.done clean wanted 11 table)

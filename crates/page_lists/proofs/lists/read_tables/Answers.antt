@@ -1,10 +1,10 @@
-use Rattle.page_lists.proofs.Columns.{coefs_told, derived_told, events_told, groups_told, members_told, meta_held, runs_told}
-use Rattle.std.proofs.Common.{map, ap, subst, ◌∙◌}
+use Rattle.prof_store.proofs.Told.{said}
+use Rattle.page_lists.proofs.Columns.{coefs_told, derived_told, events_told, groups_told, members_told, next_told, runs_told}
+use Rattle.std.proofs.Common.{map, ap, ◌∙◌}
 use Rattle.std.proofs.lemmas.Result.{IfOk-from_err}
 use Rattle.run_lists.specs.Listed.{coef_row, derived_row, event_row}
 use Rattle.page_lists.proofs.Chains.{◌⊳◌}
 use Rattle.page_lists.proofs.Shows.{shows_after}
-use Rattle.page_lists.specs.Shown.{ShowsRows}
 use Rattle.page_lists.proofs.lists.read_tables.Goals as goal
 
 pub returns-in_err-runs-clause-reads : goal.returns-in_err-runs-clause-reads
@@ -31,7 +31,8 @@ returns-clause-reads g c =
     c.next_run.ensures.reads ⊳ c.all_rows.ensures.reads ⊳ c.all_rows-2.ensures.reads ⊳ c.all_rows-3.ensures.reads ⊳ c.all_rows-4.ensures.reads ⊳ c.all_rows-5.ensures.reads ⊳ c.all_rows-6.ensures.reads
 
 pub returns-clause-listed : goal.returns-clause-listed
-returns-clause-listed g c members = λ t db holds roots.
+returns-clause-listed g c members = λ t db says roots.
+    let was = said t db says in
     let groups = c.all_rows-6.ensures.reads.keeps.stays.clean members in
     let coefs = c.all_rows-5.ensures.reads.keeps.stays.clean groups in
     let derived = c.all_rows-4.ensures.reads.keeps.stays.clean coefs in
@@ -45,13 +46,13 @@ returns-clause-listed g c members = λ t db holds roots.
     let to_groups = to_coefs ⊳ c.all_rows-4.ensures.reads in
     let to_members = to_groups ⊳ c.all_rows-5.ensures.reads in
     record {
-      next = c.in_ok-next.ensures.next next t.next (subst (ShowsRows _ _) (meta_held holds) roots.meta);
-      runs = runs_told holds _ (c.in_ok-runs.ensures.read runs _ (shows_after _ _ _ _ to_runs roots.runs));
-      events = ap (map event_row) c.new.ensures ∙ events_told holds _ (c.in_ok-events.ensures.read events _ (shows_after _ _ _ _ to_events roots.events));
-      derived = ap (map derived_row) c.new-2.ensures ∙ derived_told holds _ (c.in_ok-derived.ensures.read derived _ (shows_after _ _ _ _ to_derived roots.derived));
-      coefs = ap (map coef_row) c.new-3.ensures ∙ coefs_told holds _ (c.in_ok-coefs.ensures.read coefs _ (shows_after _ _ _ _ to_coefs roots.coefs));
-      groups = groups_told holds _ (c.in_ok-groups.ensures.read groups _ (shows_after _ _ _ _ to_groups roots.groups));
-      members = members_told holds _ (c.in_ok-members.ensures.read members _ (shows_after _ _ _ _ to_members roots.members));
+      next = next_told t db was _ (c.in_ok-next.ensures.next next _ roots.meta);
+      runs = runs_told t db was _ (c.in_ok-runs.ensures.read runs _ (shows_after _ _ _ _ to_runs roots.runs));
+      events = ap (map event_row) c.new.ensures ∙ events_told t db was _ (c.in_ok-events.ensures.read events _ (shows_after _ _ _ _ to_events roots.events));
+      derived = ap (map derived_row) c.new-2.ensures ∙ derived_told t db was _ (c.in_ok-derived.ensures.read derived _ (shows_after _ _ _ _ to_derived roots.derived));
+      coefs = ap (map coef_row) c.new-3.ensures ∙ coefs_told t db was _ (c.in_ok-coefs.ensures.read coefs _ (shows_after _ _ _ _ to_coefs roots.coefs));
+      groups = groups_told t db was _ (c.in_ok-groups.ensures.read groups _ (shows_after _ _ _ _ to_groups roots.groups));
+      members = members_told t db was _ (c.in_ok-members.ensures.read members _ (shows_after _ _ _ _ to_members roots.members));
     }
 
 pub returns-in_err-next-clause-listed : goal.returns-in_err-next-clause-listed

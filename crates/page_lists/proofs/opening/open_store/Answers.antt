@@ -2,7 +2,7 @@ use Rattle.std.proofs.lemmas.Result.{IfOk-from_err}
 use Rattle.page_lists.proofs.opening.open_store.Goals as goal
 
 pub returns-clause-opened : goal.returns-clause-opened
-returns-clause-opened g c faithful = λ t db known is. c.in_ok-roots.ensures.read faithful t db known is
+returns-clause-opened g c faithful = λ db known is. c.in_ok-roots.ensures.read faithful db known is
 
 pub returns-in_err-roots-clause-opened : goal.returns-in_err-roots-clause-opened
 returns-in_err-roots-clause-opened g c = IfOk-from_err c.from_residual.result _ c.from_residual.ensures.0

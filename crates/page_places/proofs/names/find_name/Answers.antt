@@ -8,7 +8,7 @@ use Rattle.page_files.specs.declared.files.PageFile.{PageFile}
 use Rattle.page_files.specs.Files.{FailsToRead}
 use Rattle.plain_tables.specs.Tables.{Tables}
 use Rattle.plain_tables.specs.declared.errors.StoreError.{StoreError}
-use Rattle.store_schema.specs.Tables.{Holds}
+use Rattle.page_places.specs.Stores.{HoldsNames}
 use Rattle.page_rows.specs.Walks.{FailsToWalk, MayRefuse}
 use Rattle.page_rows.specs.declared.errors.WalkError.{WalkError}
 use Rattle.page_rows.specs.declared.errors.WalkError.TheVariants.{Pages, Refused}
@@ -24,7 +24,7 @@ use Rattle.page_places.proofs.names.find_name.Goals as goal
 
 module _ {D : Type 0} {g : Ghosts D} (old new : PageFile D g) where
   -- what ended the walk has a cause
-  why : (error : WalkError StoreError) (t : Tables) (now : Trees) → Holds t now → (name : List ℕ) (from : Row) {shown : List Row} {e : StoreError} → e ≡ end_of_walk error → shown ≡ now 12
+  why : (error : WalkError StoreError) (t : Tables) (now : Trees) → HoldsNames t now → (name : List ℕ) (from : Row) {shown : List Row} {e : StoreError} → e ≡ end_of_walk error → shown ≡ now 12
       → FailsToWalk (FailsToRead old new) (MayRefuse IsRefused (from_entry plain from shown)) error → FailsToFind old new t e
   why (Pages error) t now holds name from is tree fails = inl (error, fails, is)
   why (Refused end) t now holds name from is tree fails =
@@ -39,7 +39,7 @@ returns-in-Ok-clause-told g c clean = λ t known shows root.
     let file = c.args.file.now in
     let name = c.args.name.now in
     let now = shows.db in
-    let placed = index_placed_at shows.wanted now (catalog_shown file shows.stands) shows.holds 6 _ refl in
+    let placed = index_placed_at shows.wanted now (catalog_shown file shows.stands) shows.holds.sound 6 _ refl in
     let index = index_stands file shows.stands 12 placed.low _ placed.named.shape placed.plain root in
     let tree = tree_shown file shows.stands 12 placed.low in
     let up = subst (Rattle.sqlite_trees.specs.Tree.IsIndex plain) tree (entries_in_order file index) in
@@ -54,7 +54,7 @@ pub returns-clause-told : goal.returns-clause-told
 returns-clause-told g c clean = λ t known shows root.
     let file = c.args.file.now in
     let now = shows.db in
-    let placed = index_placed_at shows.wanted now (catalog_shown file shows.stands) shows.holds 6 _ refl in
+    let placed = index_placed_at shows.wanted now (catalog_shown file shows.stands) shows.holds.sound 6 _ refl in
     let index = index_stands file shows.stands 12 placed.low _ placed.named.shape placed.plain root in
     let tree = tree_shown file shows.stands 12 placed.low in
     why file c.walk_entries.new.self c.in-Err.error t now shows.holds c.args.name.now c.push.new.self c.error_of_walk.ensures tree

@@ -7,10 +7,10 @@ use Rattle.page_places.proofs.Rooting.{store_after}
 use Rattle.page_places.proofs.roots.find_roots.Goals as goal
 
 pub returns-clause-found : goal.returns-clause-found
-returns-clause-found g c faithful = λ t db known is.
+returns-clause-found g c faithful = λ db known is.
     let early = c.index_roots.ensures.reads.keeps.stays.clean faithful in
-    let tables = c.in_ok-tables.ensures.found refl early t db known is in
-    let indexes = c.in_ok-indexes.ensures.found index_names_are faithful t db known (store_after _ _ t db known c.table_roots.ensures.reads is) in
+    let tables = c.in_ok-tables.ensures.found refl early db known is in
+    let indexes = c.in_ok-indexes.ensures.found index_names_are faithful db known (store_after _ _ db known c.table_roots.ensures.reads is) in
     c.roots_of.ensures known tables indexes
 
 pub returns-clause-reads : goal.returns-clause-reads
@@ -22,6 +22,6 @@ returns-in_err-indexes-clause-reads g c = OnlyReads-trans _ _ _ c.table_roots.en
 pub returns-in_err-indexes-clause-failed : goal.returns-in_err-indexes-clause-failed
 returns-in_err-indexes-clause-failed g c =
     let p = err_from_is_err_and c.from_residual-in_err-indexes.result c.from_residual-in_err-indexes.ensures.1 in
-    rw (p.1, p.2) (λ faithful t db known is.
+    rw (p.1, p.2) (λ faithful db known is.
     reads_later c.args.file.now c.table_roots.new.file c.index_roots.new.file _ c.table_roots.ensures.reads
-    (c.in_err-indexes.ensures.failed index_names_are faithful t db known (store_after _ _ t db known c.table_roots.ensures.reads is)))
+    (c.in_err-indexes.ensures.failed index_names_are faithful db known (store_after _ _ db known c.table_roots.ensures.reads is)))

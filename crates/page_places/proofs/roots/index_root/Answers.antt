@@ -6,9 +6,9 @@ use Rattle.page_places.proofs.Placing.{index_placed_at}
 use Rattle.page_places.proofs.roots.index_root.Goals as goal
 
 pub returns-in-Ok-Some-clause-found : goal.returns-in-Ok-Some-clause-found
-returns-in-Ok-Some-clause-found g c faithful = λ t db known is at index there name.
+returns-in-Ok-Some-clause-found g c faithful = λ db known is at index there name.
     let file = c.args.file.now in
-    let placed = index_placed_at is.wanted db (catalog_shown file is.stands) is.holds at index there in
+    let placed = index_placed_at is.wanted db (catalog_shown file is.stands) is.sound at index there in
     let named = subst (IsIndexNamed is.wanted index.tree index.order) (name ∙ sym c.as_bytes.ensures.value) placed.named in
     let found = c.in-Ok-Some.ensures.done faithful is.wanted index.tree index.order (record { is_db = is.stands.is_db; no_zero = is.no_zero }) named in
     let stated : Some c.in-Ok-Some.root ≡ Some (root_of_tree (page_size file) is.wanted (pages_of file) index.tree) = sym c.in-Ok-Some.field-0-is ∙ found in
@@ -16,15 +16,15 @@ returns-in-Ok-Some-clause-found g c faithful = λ t db known is at index there n
     same ∙ ap (λ l. slice_index l index.tree) (sym is.stands.known_are)
 
 pub returns-in-Err-clause-failed : goal.returns-in-Err-clause-failed
-returns-in-Err-clause-failed g c faithful = λ t db known is at index there name.
-    let placed = index_placed_at is.wanted db (catalog_shown c.args.file.now is.stands) is.holds at index there in
+returns-in-Err-clause-failed g c faithful = λ db known is at index there name.
+    let placed = index_placed_at is.wanted db (catalog_shown c.args.file.now is.stands) is.sound at index there in
     let named = subst (IsIndexNamed is.wanted index.tree index.order) (name ∙ sym c.as_bytes.ensures.value) placed.named in
     (c.in-Err.error, c.in-Err.ensures.done faithful is.wanted index.tree index.order (record { is_db = is.stands.is_db; no_zero = is.no_zero }) named, c.error_of.ensures)
 
 pub returns-in-Ok-None-clause-failed : goal.returns-in-Ok-None-clause-failed
-returns-in-Ok-None-clause-failed g c faithful = λ t db known is at index there name.
+returns-in-Ok-None-clause-failed g c faithful = λ db known is at index there name.
     let file = c.args.file.now in
-    let placed = index_placed_at is.wanted db (catalog_shown file is.stands) is.holds at index there in
+    let placed = index_placed_at is.wanted db (catalog_shown file is.stands) is.sound at index there in
     let named = subst (IsIndexNamed is.wanted index.tree index.order) (name ∙ sym c.as_bytes.ensures.value) placed.named in
     let no : None ≡ Some (root_of_tree (page_size file) is.wanted (pages_of file) index.tree) = sym c.in-Ok-None.field-0-is ∙ c.in-Ok-None.ensures.done faithful is.wanted index.tree index.order (record { is_db = is.stands.is_db; no_zero = is.no_zero }) named in
     absurd cc

@@ -1,7 +1,6 @@
 use Rattle.std.proofs.Common.{◌≡◌, ◌<◌, ℕ, List, length}
 use Rattle.sqlite_trees.specs.Tree.{Trees}
 use Rattle.page_files.specs.Files.{IsFaithful, IsUsable, OnlyReads}
-use Rattle.plain_tables.specs.Tables.{Tables}
 use Rattle.store_schema.specs.Schema.{schema_two}
 use Rattle.page_places.specs.Roots.{AreFound, AreNames, IsStoreOf, index_name, index_tree}
 use Rattle.page_places.proofs.roots.index_roots.Given as goal
@@ -11,5 +10,5 @@ invariant-indexes g l = record {
   sized : length l.roots ≡ 12;
   reads : OnlyReads l.fn.file l.file;
   usable : 0 < l.at → IsUsable l.file;
-  found : AreNames schema_two.indexes index_name l.names → IsFaithful l.file → (t : Tables) (db : Trees) (known : List ℕ) → IsStoreOf l.fn.file t db known → AreFound schema_two.indexes index_tree known l.roots l.at;
+  found : AreNames schema_two.indexes index_name l.names → IsFaithful l.file → (db : Trees) (known : List ℕ) → IsStoreOf l.fn.file db known → AreFound schema_two.indexes index_tree known l.roots l.at;
 }

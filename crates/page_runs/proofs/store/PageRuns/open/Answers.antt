@@ -8,7 +8,8 @@ use Rattle.page_files.specs.Held.{Has}
 use Rattle.sqlite_pool.specs.Stored.{Recovers}
 use Rattle.page_places.proofs.Rooting.{store_resting}
 use Rattle.page_runs.specs.declared.store.PageRuns.{PageRuns}
-use Rattle.page_runs.proofs.Taken.{represents_as}
+use Rattle.prof_store.proofs.Told.{held_said}
+use Rattle.page_runs.proofs.Taken.{reads_as, represents_as}
 use Rattle.std.proofs.lemmas.Result.{IfOk-from_err}
 use Rattle.page_lists.specs.Sizes.{IsSizeOf}
 use Rattle.page_runs.proofs.store.PageRuns.open.Goals as goal
@@ -22,8 +23,22 @@ returns-clause-represents g c = λ faithful t is.
     record { file = c.in_ok-file.file; alloc = c.args.alloc; roots = c.in_ok-file.roots; lists = c.in_ok-file.lists; is_alone = c.in_ok-file.is_alone; hints = c.new.result; kept_cells = c.new-2.result } in
     let has : Has (page_size opened) is.at.wanted is.db is.at.pages = subst (λ n. Has n is.at.wanted is.db is.at.pages) size (record { ours = is.at.ours; reads = is.at.reads }) in
     let rests = c.in_ok-opened.ensures.rests (reads.keeps.stays.clean faithful) is.at.wanted is.db is.at.pages (subst (λ n. Recovers n (seen_image g.D.Disk c.args.files.log c.args.files.db) is.at.pages) size is.at.found) has in
-    let (roots, listed) = c.in_ok-file.ensures.opened faithful t is.db _ (store_resting opened t is.db _ _ rests is.holds) in
-    represents_as t store is.db _ (rests_after opened c.in_ok-file.file reads faithful c.in_ok-file.ensures.usable rests) is.holds is.ordered roots listed (c.new-2.ensures.nothing t) c.in_ok-file.ensures.usable
+    let (roots, listed) = c.in_ok-file.ensures.opened faithful is.db _ (store_resting opened is.db _ _ rests is.holds.contain.sound) in
+    represents_as t store is.db _ (rests_after opened c.in_ok-file.file reads faithful c.in_ok-file.ensures.usable rests) is.holds is.ordered roots (listed t (held_said t is.db is.holds))
+    (c.new-2.ensures.nothing t) c.in_ok-file.ensures.usable
+
+pub returns-clause-reads : goal.returns-clause-reads
+returns-clause-reads g c = λ faithful t is.
+    let reads = c.in_ok-file.ensures.reads in
+    let size = reads.keeps.stays.size in
+    let opened = c.in_ok-opened.opened in
+    let store : PageRuns g.row.D.Denot g.D.Disk =
+    record { file = c.in_ok-file.file; alloc = c.args.alloc; roots = c.in_ok-file.roots; lists = c.in_ok-file.lists; is_alone = c.in_ok-file.is_alone; hints = c.new.result; kept_cells = c.new-2.result } in
+    let has : Has (page_size opened) is.at.wanted is.db is.at.pages = subst (λ n. Has n is.at.wanted is.db is.at.pages) size (record { ours = is.at.ours; reads = is.at.reads }) in
+    let rests = c.in_ok-opened.ensures.rests (reads.keeps.stays.clean faithful) is.at.wanted is.db is.at.pages (subst (λ n. Recovers n (seen_image g.D.Disk c.args.files.log c.args.files.db) is.at.pages) size is.at.found) has in
+    let (roots, listed) = c.in_ok-file.ensures.opened faithful is.db _ (store_resting opened is.db _ _ rests is.says.names.sound) in
+    reads_as t store is.db _ (rests_after opened c.in_ok-file.file reads faithful c.in_ok-file.ensures.usable rests) is.says roots (listed t is.says.says)
+    (c.new-2.ensures.nothing t) c.in_ok-file.ensures.usable
 
 pub returns-clause-crash : goal.returns-clause-crash
 returns-clause-crash g c =
@@ -72,3 +87,9 @@ returns-clause-size g c = λ faithful.
 
 pub returns-clause-keeps : goal.returns-clause-keeps
 returns-clause-keeps g c = c.new-2.ensures.limit
+
+pub returns-in_err-opened-clause-reads : goal.returns-in_err-opened-clause-reads
+returns-in_err-opened-clause-reads g c = IfOk-from_err c.from_residual.result _ c.from_residual.ensures.0
+
+pub returns-in_err-file-clause-reads : goal.returns-in_err-file-clause-reads
+returns-in_err-file-clause-reads g c = IfOk-from_err c.from_residual-in_err-file.result _ c.from_residual-in_err-file.ensures.0

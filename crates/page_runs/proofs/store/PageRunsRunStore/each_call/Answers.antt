@@ -1,7 +1,7 @@
 use Rattle.std.proofs.Common.{refl, sym, subst}
 use Rattle.run_stores.specs.Walks.{CallsFoldTo}
 use Rattle.plain_tables.specs.RunRows.{calls_in}
-use Rattle.plain_tables.specs.Tables.{StoredCall}
+use Rattle.store_schema.specs.Schema.{arc_at}
 use Rattle.store_schema.specs.Tables.{arc_columns}
 use Rattle.page_lists.specs.Shown.{ShowsLines}
 use Rattle.page_runs.proofs.Taken.{large_shown}
@@ -16,7 +16,7 @@ returns-clause-told g c faithful t is =
     let made = c.in_ok-table.ensures t is.shows.listed in
     let root = made.root_is in
     let run = made.run_is in
-    let there = subst (λ n. ShowsLines c.args.self.now.file n arc_columns (λ (r : StoredCall). r.run) t.calls) (sym root) (large_shown t c.args.self.now is.shows).calls in
+    let there = subst (λ n. ShowsLines c.args.self.now.file n arc_at arc_columns t.calls) (sym root) (large_shown t c.args.self.now is.shows).calls in
     (let both = c.in_ok-taken.ensures.told faithful t there in subst (λ n. CallsFoldTo c.args.events sink.step start (sink.meaning c.in_ok-taken.taken) (calls_in n t)) run both.0)
 
 pub returns-clause-asks : goal.returns-clause-asks

@@ -1,7 +1,7 @@
 use Rattle.std.proofs.Common.{refl, sym, subst}
 use Rattle.run_stores.specs.Walks.{CellsFoldTo}
 use Rattle.plain_tables.specs.RunRows.{cells_in}
-use Rattle.plain_tables.specs.Tables.{StoredCell}
+use Rattle.store_schema.specs.Schema.{thread_cell_at}
 use Rattle.store_schema.specs.Tables.{cell_columns}
 use Rattle.page_lists.specs.Shown.{ShowsLines}
 use Rattle.page_runs.proofs.Taken.{large_shown}
@@ -17,7 +17,7 @@ returns-clause-told g c faithful t is =
     let made = c.in_ok-table.ensures t is.shows.listed in
     let root = made.root_is in
     let run = made.run_is in
-    let there = subst (λ n. ShowsLines c.args.self.now.file n cell_columns (λ (r : StoredCell). r.run) t.cells) (sym root) (large_shown t c.args.self.now is.shows).cells in
+    let there = subst (λ n. ShowsLines c.args.self.now.file n thread_cell_at cell_columns t.cells) (sym root) (large_shown t c.args.self.now is.shows).cells in
     (let both = c.in_ok-taken.ensures.told faithful t there in subst (λ n. CellsFoldTo c.args.events sink.step start (sink.meaning c.in_ok-taken.taken) (cells_in n t)) run both.0)
 
 pub returns-clause-asks : goal.returns-clause-asks
@@ -28,7 +28,7 @@ returns-clause-asks g c =
     let made = c.in_ok-table.ensures t is.listed in
     let root = made.root_is in
     let run = made.run_is in
-    let there = subst (λ n. ShowsLines store.file n cell_columns (λ (r : StoredCell). r.run) t.cells) (sym root) (large_shown t store is).cells in
+    let there = subst (λ n. ShowsLines store.file n thread_cell_at cell_columns t.cells) (sym root) (large_shown t store is).cells in
     c.keep.ensures.kept t is.kept_cells (subst (λ n. HasGathered (cells_in n t) c.in_ok-taken.gathered) run (c.in_ok-taken.ensures.told clean t there).2))
     _ (λ _. c.in_ok-if_usable-2.ensures)
 

@@ -1,6 +1,6 @@
 use Rattle.std.proofs.Common.{fold, refl, sym, ap, subst, ◌∙◌}
 use Rattle.run_stores.specs.Book.{stacks_held}
-use Rattle.plain_tables.specs.Tables.{StoredStack}
+use Rattle.store_schema.specs.Schema.{stack_at}
 use Rattle.store_schema.specs.Tables.{stack_columns}
 use Rattle.page_lists.specs.Shown.{ShowsLines}
 use Rattle.page_runs.proofs.Taken.{large_shown}
@@ -15,7 +15,7 @@ returns-clause-told g c faithful t is =
     let made = (c.in_ok-table.ensures t is.shows.listed).2 in
     let root = made.root_is in
     let run = made.run_is in
-    let there = subst (λ n. ShowsLines c.args.self.now.file n stack_columns (λ (r : StoredStack). r.run) t.stacks) (sym root) (large_shown t c.args.self.now is.shows).stacks in
+    let there = subst (λ n. ShowsLines c.args.self.now.file n stack_at stack_columns t.stacks) (sym root) (large_shown t c.args.self.now is.shows).stacks in
     (let both = c.in_ok-taken.ensures.told faithful t there in both.0 ∙ ap (λ n. fold sink.step start (stacks_held n t)) run)
 
 pub returns-clause-asks : goal.returns-clause-asks

@@ -16,7 +16,7 @@ pub returns-clause-told : goal.returns-clause-told
 returns-clause-told g c faithful t is =
     let store = c.args.self.now in
     let rise = names_rise t.names (shown_rise _ _ (map name_columns t.names) (large_shown t store is.shows).names) in
-    if_ok c.find_name.result _ _ _ (λ found. is_number t c.args.name.now c.is_name.ensures rise found) (c.find_name.ensures.told faithful t is.shows.known is.shows.stored is.shows.roots.name_bytes)
+    if_ok c.find_name.result _ _ _ (λ found. is_number t c.args.name.now c.is_name.ensures rise found) (c.find_name.ensures.told faithful t is.shows.known (record { wanted = is.shows.wanted; db = is.shows.db; stands = is.shows.stands; holds = is.shows.says.names }) is.shows.roots.name_bytes)
 
 pub returns-clause-asks : goal.returns-clause-asks
 returns-clause-asks g c = asked _ _ c.find_name.ensures.reads refl refl refl _ (λ done. is_done c.find_name.result done c.find_name.ensures.usable)
