@@ -77,16 +77,17 @@ module _ {X : Type 0} (far : ℕ → ℕ) (is_far : (n : ℕ) → 2 ^ 64 ≤ far
   lines_are [] [] (l ∷ lines) all are = absurd cc
   lines_are [] (x ∷ xs) lines all are = absurd all
   lines_are (r ∷ rows) [] lines all are = absurd all
-  lines_are (r ∷ rows) (x ∷ xs) lines all are = go (is_of n r) refl lines are
+  lines_are (r ∷ rows) (x ∷ xs) lines all are = go (is_of n r) refl lines are (λ given. lines_are rows xs given all.1)
     where
       go : (b : Bool) → is_of n r ≡ b → (given : List X) → map columns given ≡ map (drop 1) (if b then r ∷ filter (is_of n) rows else filter (is_of n) rows)
+          → ((more : List X) → AreOfRun columns n rows more → filter (λ y. eqb (run y) n) xs ≡ more)
           → (if eqb (run x) n then x ∷ filter (λ y. eqb (run y) n) xs else filter (λ y. eqb (run y) n) xs) ≡ given
-      go true of [] is = absurd cc
-      go true of (l ∷ given) is =
+      go true of [] is later = absurd cc
+      go true of (l ∷ given) is later =
           let here : columns l ≡ drop 1 r = cc in
-          let later : map columns given ≡ map (drop 1) (filter (is_of n) rows) = cc in
+          let others : map columns given ≡ map (drop 1) (filter (is_of n) rows) = cc in
           let this = of_run r x l all.0 here of in
-          rw this.1 (ap₂ ◌∷◌ this.0 (lines_are rows xs given all.1 later))
-      go false of given is =
+          rw this.1 (ap₂ ◌∷◌ this.0 (later given others))
+      go false of given is later =
           let other : eqb (run x) n ≡ false = other_number far is_far (column r 1) (run x) n low (named r x all.0) of in
-          rw other (lines_are rows xs given all.1 is)
+          rw other (later given is)

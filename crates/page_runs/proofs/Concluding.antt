@@ -79,7 +79,7 @@ module _ {D : Type 0} {g : Ghosts D} where
       made = λ faithful wanted known was next t writes are holds order.
           let earlier = commits.stays.clean faithful in
           let later = writes_after old.file mid.file reads earlier usable writes in
-          let shown = tables_show old.file t next known (stands_writing old.file writes) holds old.roots are in
+          let shown = tables_show old.file next known (stands_writing old.file writes) holds.contain.sound old.roots are in
           let told = listed earlier t next holds shown in
           three_ok result (λ same rests still. represents_as t new next known rests holds order (subst (AreRoots known) (sym (same.1 ∙ roots)) are) (subst (AreListed t) (sym same.0) told) (same.2 t) still)
           commits.made (commits.rests faithful wanted known was next later) commits.usable;

@@ -1,5 +1,6 @@
 use Rattle.std.proofs.Common.{refl}
 use Rattle.sqlite_pool.specs.StoredLaws.{Keeps-trans}
+use Rattle.prof_store.proofs.Told.{held_said}
 use Rattle.page_runs.specs.declared.store.PageRuns.{PageRuns}
 use Rattle.page_runs.proofs.Concluding.{commits_nothing, concluded, undone_behind}
 use Rattle.page_runs.proofs.store.PageRuns.conclude.Goals as goal
@@ -8,7 +9,7 @@ pub returns-in-Ok : goal.returns-in-Ok
 returns-in-Ok g c =
     let old = c.args.self.now in
     let mid : PageRuns g.row.D.Denot g.D.Disk = record old { file = c.read_lists.new.file } in
-    concluded old mid _ c.read_lists.ensures.reads refl refl refl _ _ c.in-Ok.ensures.usable (λ faithful t db holds roots. c.in-Ok.ensures.listed faithful t db holds roots) c.commit.ensures
+    concluded old mid _ c.read_lists.ensures.reads refl refl refl _ _ c.in-Ok.ensures.usable (λ faithful t db holds roots. c.in-Ok.ensures.listed faithful t db (held_said t db holds) roots) c.commit.ensures
 
 pub returns-in-Err : goal.returns-in-Err
 returns-in-Err g c =
