@@ -1,141 +1,151 @@
 // Imports, removals and groups, and what is refused.
 use crate::bytes::Endless;
 use crate::files::{ADDRESSES, CALLS, GREATEST, ONE, TOTALS};
-use crate::steps::{Visit, ask, import, import_folded, print, print_within, visit_empty};
-use prof_library::{
-    Answer, Command, Key, Kind, Limits, Query, Refusal, RunStore, Selection, Warehouse, status_of,
-};
+use crate::steps::{Asked, Question, Step, Visit, print, print_within, visit_empty};
+use prof_library::{Answer, Kind, Limits, Refusal, RunStore, Warehouse, status_of};
 use std::alloc::Global;
 use std::test::Fail;
 
-pub fn a_file_is_held_once(alloc: Global) -> Result<(), Fail> {
-    print(
-        alloc,
-        &[
-            (import(TOTALS), "run 1\n"),
-            (import(TOTALS), "held 1\n"),
-            (import_folded(TOTALS), "held 1\n"),
-            (Command::Remove(1), "done\n"),
-            (import(TOTALS), "run 2\n"),
-        ],
-    )
+const A_FILE_IS_HELD_ONCE: &[Step] = &[
+    (Asked::Import(TOTALS), "run 1\n"),
+    (Asked::Import(TOTALS), "held 1\n"),
+    (Asked::ImportFolded(TOTALS), "held 1\n"),
+    (Asked::Remove(1), "done\n"),
+    (Asked::Import(TOTALS), "run 2\n"),
+];
+
+const SELF_COSTS_HAVE_ROOM_TOGETHER: &[Step] = &[
+    (Asked::Import(GREATEST), "run 1\n"),
+    (Asked::Import(ONE), "refused: overflow of self cost Ir\n"),
+    (Asked::Remove(1), "done\n"),
+    (Asked::Import(ONE), "run 2\n"),
+    (
+        Asked::Import(b"events: Ir\n1 9223372036854775808\n"),
+        "refused: line 2: F4 number too large\n",
+    ),
+];
+
+const COSTS_AND_COUNTS_OF_CALLS_HAVE_ROOM_TOGETHER: &[Step] = &[
+    (
+        Asked::Import(b"events: Ir\nfn=f\ncalls=1 1\n1 9223372036854775807\ncalls=1 1\n1 1\n"),
+        "refused: overflow of call cost Ir\n",
+    ),
+    (
+        Asked::Import(b"events: Ir\nfn=f\ncalls=9223372036854775807 1\n1\ncalls=1 1\n1\n"),
+        "refused: overflow of call count\n",
+    ),
+];
+
+const GROUPS_LOSE_A_RUN_THAT_IS_REMOVED: &[Step] = &[
+    (Asked::Import(CALLS), "run 1\n"),
+    (Asked::MakeGroup(b"g"), "done\n"),
+    (Asked::MakeGroup(b"h"), "done\n"),
+    (Asked::Join(b"g", 1), "done\n"),
+    (Asked::Join(b"h", 1), "done\n"),
+    (Asked::SetBaseline(b"g", 1), "done\n"),
+    (Asked::Ask(Question::Groups), "g 1 1\nh - 1\n"),
+    (Asked::Remove(1), "done\n"),
+    (Asked::Ask(Question::Groups), "g - -\nh - -\n"),
+    (
+        Asked::Ask(Question::LessBaseline(b"g", b"Instructions")),
+        "refused: no baseline\n",
+    ),
+    (Asked::MakeGroup(b""), "refused: bad name\n"),
+];
+
+const FILES_WITH_FAULTS: &[Step] = &[
+    (
+        Asked::Import(b"events: Ir\nfn=f\ncalls=1 50\n"),
+        "refused: line 3: F15 call without cost\n",
+    ),
+    (
+        Asked::Import(b"events: Ir\nfn=f\n-5 1\n"),
+        "refused: line 3: F12 position range\n",
+    ),
+    (
+        Asked::Import(b"events: Ir\nfn=(9)\n"),
+        "refused: line 2: F13 unknown identifier\n",
+    ),
+    (
+        Asked::Import(b"events: Ir\n1 2 3\n"),
+        "refused: line 2: F11 too many costs\n",
+    ),
+];
+
+const A_RUN_THAT_IS_NOT_HELD: &[Step] = &[(Asked::Remove(5), "refused: no such run\n")];
+
+const TWO_RUNS_OF_THREE_NUMBERS: &[Step] = &[
+    (Asked::Import(TOTALS), "run 1\n"),
+    (Asked::Import(CALLS), "run 2\n"),
+    (Asked::Import(ADDRESSES), "refused: full\n"),
+    // What is held, a fault, and a sum that does not fit come before a lack of room.
+    (Asked::Import(TOTALS), "held 1\n"),
+    (
+        Asked::Import(b"events: Ir\n1 2 3\n"),
+        "refused: line 2: F11 too many costs\n",
+    ),
+    (
+        Asked::Import(b"events: Bc\n1 9223372036854775807\n2 1\n"),
+        "refused: overflow of self cost Bc\n",
+    ),
+    (Asked::Remove(1), "done\n"),
+    (Asked::Import(ADDRESSES), "refused: run numbers spent\n"),
+    (Asked::Import(CALLS), "held 2\n"),
+];
+
+const ONE_GROUP_AND_NO_MORE: &[Step] = &[
+    (Asked::MakeGroup(b"g"), "done\n"),
+    (Asked::MakeGroup(b"g"), "refused: group exists\n"),
+    (Asked::MakeGroup(b"h"), "refused: full\n"),
+    (Asked::DropGroup(b"h"), "refused: no such group\n"),
+    (Asked::Join(b"h", 7), "refused: no such group\n"),
+    (Asked::Join(b"g", 7), "refused: no such run\n"),
+    (Asked::Import(TOTALS), "run 1\n"),
+    (Asked::Leave(b"g", 1), "done\n"),
+    (Asked::Join(b"g", 1), "done\n"),
+    (Asked::Join(b"g", 1), "done\n"),
+    (Asked::Ask(Question::Groups), "g - 1\n"),
+    (Asked::DropGroup(b"g"), "done\n"),
+    (Asked::MakeGroup(b"g"), "done\n"),
+    (Asked::Ask(Question::Groups), "g - -\n"),
+];
+
+/// The rows of changes, each over an empty store.
+const ROWS: [&[Step]; 6] = [
+    A_FILE_IS_HELD_ONCE,
+    SELF_COSTS_HAVE_ROOM_TOGETHER,
+    COSTS_AND_COUNTS_OF_CALLS_HAVE_ROOM_TOGETHER,
+    GROUPS_LOSE_A_RUN_THAT_IS_REMOVED,
+    FILES_WITH_FAULTS,
+    A_RUN_THAT_IS_NOT_HELD,
+];
+
+pub fn rows_of_changes(alloc: Global) -> Result<(), Fail> {
+    for steps in ROWS {
+        print(alloc, steps)?;
+    }
+    Ok(())
 }
 
-pub fn self_costs_have_room_together(alloc: Global) -> Result<(), Fail> {
-    print(
-        alloc,
-        &[
-            (import(GREATEST), "run 1\n"),
-            (import(ONE), "refused: overflow of self cost Ir\n"),
-            (Command::Remove(1), "done\n"),
-            (import(ONE), "run 2\n"),
-            (
-                import(b"events: Ir\n1 9223372036854775808\n"),
-                "refused: line 2: F4 number too large\n",
-            ),
-        ],
-    )
-}
-
-pub fn costs_and_counts_of_calls_have_room_together(alloc: Global) -> Result<(), Fail> {
-    print(
-        alloc,
-        &[
-            (
-                import(b"events: Ir\nfn=f\ncalls=1 1\n1 9223372036854775807\ncalls=1 1\n1 1\n"),
-                "refused: overflow of call cost Ir\n",
-            ),
-            (
-                import(b"events: Ir\nfn=f\ncalls=9223372036854775807 1\n1\ncalls=1 1\n1\n"),
-                "refused: overflow of call count\n",
-            ),
-        ],
-    )
-}
-
-pub fn groups_lose_a_run_that_is_removed(alloc: Global) -> Result<(), Fail> {
-    let less_its_baseline = Query::Subtract {
-        first: Selection::Group(b"g".as_slice()),
-        second: None,
-        key: Key::Function,
-        event: b"Instructions",
-    };
-    print(
-        alloc,
-        &[
-            (import(CALLS), "run 1\n"),
-            (Command::MakeGroup(b"g"), "done\n"),
-            (Command::MakeGroup(b"h"), "done\n"),
-            (Command::Join(b"g", 1), "done\n"),
-            (Command::Join(b"h", 1), "done\n"),
-            (Command::SetBaseline(b"g", 1), "done\n"),
-            (ask(Query::Groups), "g 1 1\nh - 1\n"),
-            (Command::Remove(1), "done\n"),
-            (ask(Query::Groups), "g - -\nh - -\n"),
-            (ask(less_its_baseline), "refused: no baseline\n"),
-            (Command::MakeGroup(b""), "refused: bad name\n"),
-        ],
-    )
-}
-
-pub fn files_with_faults(alloc: Global) -> Result<(), Fail> {
-    print(
-        alloc,
-        &[
-            (
-                import(b"events: Ir\nfn=f\ncalls=1 50\n"),
-                "refused: line 3: F15 call without cost\n",
-            ),
-            (
-                import(b"events: Ir\nfn=f\n-5 1\n"),
-                "refused: line 3: F12 position range\n",
-            ),
-            (
-                import(b"events: Ir\nfn=(9)\n"),
-                "refused: line 2: F13 unknown identifier\n",
-            ),
-            (
-                import(b"events: Ir\n1 2 3\n"),
-                "refused: line 2: F11 too many costs\n",
-            ),
-        ],
-    )
-}
-
-pub fn small_limits(alloc: Global) -> Result<(), Fail> {
+pub fn rows_under_small_limits(alloc: Global) -> Result<(), Fail> {
     let standard = Limits::standard();
-    let limits = Limits {
+    let two_runs = Limits {
         bytes: standard.bytes,
         runs: 2,
         groups: standard.groups,
         numbers: 3,
     };
-    print_within(
-        alloc,
-        limits,
-        &[
-            (import(TOTALS), "run 1\n"),
-            (import(CALLS), "run 2\n"),
-            (import(ADDRESSES), "refused: full\n"),
-            // What is held, a fault, and a sum that does not fit come before a lack of room.
-            (import(TOTALS), "held 1\n"),
-            (
-                import(b"events: Ir\n1 2 3\n"),
-                "refused: line 2: F11 too many costs\n",
-            ),
-            (
-                import(b"events: Bc\n1 9223372036854775807\n2 1\n"),
-                "refused: overflow of self cost Bc\n",
-            ),
-            (Command::Remove(1), "done\n"),
-            (import(ADDRESSES), "refused: run numbers spent\n"),
-            (import(CALLS), "held 2\n"),
-        ],
-    )
+    print_within(alloc, two_runs, TWO_RUNS_OF_THREE_NUMBERS)?;
+    let one_group = Limits {
+        bytes: standard.bytes,
+        runs: standard.runs,
+        groups: 1,
+        numbers: standard.numbers,
+    };
+    print_within(alloc, one_group, ONE_GROUP_AND_NO_MORE)
 }
 
-pub fn a_run_that_is_not_held(alloc: Global) -> Result<(), Fail> {
-    print(alloc, &[(Command::Remove(5), "refused: no such run\n")])?;
+pub fn statuses_of_answers() -> Result<(), Fail> {
     if status_of(&[Answer::Done]) != 0 {
         Err("another status of a command that was done")?;
     }
@@ -143,36 +153,6 @@ pub fn a_run_that_is_not_held(alloc: Global) -> Result<(), Fail> {
         Err("another status of a refusal")?;
     }
     Ok(())
-}
-
-pub fn one_group_and_no_more(alloc: Global) -> Result<(), Fail> {
-    let standard = Limits::standard();
-    let limits = Limits {
-        bytes: standard.bytes,
-        runs: standard.runs,
-        groups: 1,
-        numbers: standard.numbers,
-    };
-    print_within(
-        alloc,
-        limits,
-        &[
-            (Command::MakeGroup(b"g"), "done\n"),
-            (Command::MakeGroup(b"g"), "refused: group exists\n"),
-            (Command::MakeGroup(b"h"), "refused: full\n"),
-            (Command::DropGroup(b"h"), "refused: no such group\n"),
-            (Command::Join(b"h", 7), "refused: no such group\n"),
-            (Command::Join(b"g", 7), "refused: no such run\n"),
-            (import(TOTALS), "run 1\n"),
-            (Command::Leave(b"g", 1), "done\n"),
-            (Command::Join(b"g", 1), "done\n"),
-            (Command::Join(b"g", 1), "done\n"),
-            (ask(Query::Groups), "g - 1\n"),
-            (Command::DropGroup(b"g"), "done\n"),
-            (Command::MakeGroup(b"g"), "done\n"),
-            (ask(Query::Groups), "g - -\n"),
-        ],
-    )
 }
 
 /// The import of a file that has no end.

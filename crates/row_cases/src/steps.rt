@@ -7,98 +7,141 @@ use sqlite::Connection;
 use std::alloc::Global;
 use std::test::Fail;
 
-/// A command, and what it prints.
-pub(crate) type Step = (Command<Bytes, &'static [u8]>, &'static str);
-
-/// The import of a Callgrind file.
-pub(crate) fn import(file: &'static [u8]) -> Command<Bytes, &'static [u8]> {
-    labelled(Kind::Callgrind, b"a.out", file)
+/// What a row asks for: rows are constants, so that none of them costs a proof.
+#[derive(Clone, Copy)]
+pub(crate) enum Asked {
+    /// The import of a Callgrind file.
+    Import(&'static [u8]),
+    /// That of an empty one, under a label of its own.
+    ImportNothing,
+    /// That of one which gives a byte at a time.
+    ImportSlowly(&'static [u8]),
+    /// That of folded stacks.
+    ImportFolded(&'static [u8]),
+    Remove(u32),
+    MakeGroup(&'static [u8]),
+    DropGroup(&'static [u8]),
+    Join(&'static [u8], u32),
+    Leave(&'static [u8], u32),
+    SetBaseline(&'static [u8], u32),
+    /// The costs of an event beside the lines of a source, which is a file of the runs: event, file, source.
+    Annotate(&'static [u8], &'static [u8], &'static [u8]),
+    Ask(Question),
 }
 
-/// The import of folded stacks.
-pub(crate) fn import_folded(file: &'static [u8]) -> Command<Bytes, &'static [u8]> {
-    labelled(Kind::Folded, b"a.folded", file)
+/// A question, of all runs where it names none.
+#[derive(Clone, Copy)]
+pub(crate) enum Question {
+    Runs,
+    Groups,
+    Verify,
+    Csv,
+    Folded,
+    By(Key, &'static [u8]),
+    /// The same with a limit on its rows and a threshold.
+    CutBy(Key, &'static [u8], u64, u8),
+    Inclusive(&'static [u8]),
+    /// The callers of a function of no known object: event, function.
+    Callers(&'static [u8], &'static [u8]),
+    /// Those that it calls.
+    Callees(&'static [u8], &'static [u8]),
+    /// A run less another, by function.
+    Less(u32, u32, &'static [u8]),
+    /// A group less its baseline, by function.
+    LessBaseline(&'static [u8], &'static [u8]),
 }
 
-pub(crate) fn labelled(
+/// What is asked for, and what is printed.
+pub(crate) type Step = (Asked, &'static str);
+
+/// How many bytes a file gives at most at a time.
+const PIECE: usize = 4096;
+
+fn import(
     kind: Kind,
     label: &'static [u8],
-    file: &'static [u8],
+    left: &'static [u8],
+    most: usize,
 ) -> Command<Bytes, &'static [u8]> {
     Command::Import {
         kind,
         label,
-        source: Bytes {
-            left: file,
-            most: 4096,
-        },
+        source: Bytes { left, most },
     }
 }
 
-/// All costs of all runs by key.
-pub(crate) fn by(key: Key, event: &'static [u8]) -> Command<Bytes, &'static [u8]> {
-    cut_by(key, event, None, 100)
-}
-
-pub(crate) fn cut_by(
-    key: Key,
-    event: &'static [u8],
-    limit: Option<u64>,
-    threshold: u8,
-) -> Command<Bytes, &'static [u8]> {
-    Command::Ask(Query::By {
+fn by(key: Key, event: &'static [u8], limit: Option<u64>, threshold: u8) -> Query<&'static [u8]> {
+    Query::By {
         selection: Selection::All,
         key,
         event,
         cut: Cut { limit, threshold },
-    })
+    }
 }
 
-pub(crate) fn inclusive(event: &'static [u8]) -> Command<Bytes, &'static [u8]> {
-    Command::Ask(Query::Inclusive {
-        selection: Selection::All,
-        event,
-    })
-}
-
-/// The callers of a function of no known object.
-pub(crate) fn callers(
+fn less(
+    first: Selection<&'static [u8]>,
+    second: Option<Selection<&'static [u8]>>,
     event: &'static [u8],
-    function: &'static [u8],
-) -> Command<Bytes, &'static [u8]> {
-    Command::Ask(Query::Callers {
-        selection: Selection::All,
-        event,
-        object: b"???",
-        function,
-    })
-}
-
-/// Those that it calls.
-pub(crate) fn callees(
-    event: &'static [u8],
-    function: &'static [u8],
-) -> Command<Bytes, &'static [u8]> {
-    Command::Ask(Query::Callees {
-        selection: Selection::All,
-        event,
-        object: b"???",
-        function,
-    })
-}
-
-/// A run less another, by function.
-pub(crate) fn less(first: u32, second: u32, event: &'static [u8]) -> Command<Bytes, &'static [u8]> {
-    Command::Ask(Query::Subtract {
-        first: Selection::Run(first),
-        second: Some(Selection::Run(second)),
+) -> Query<&'static [u8]> {
+    Query::Subtract {
+        first,
+        second,
         key: Key::Function,
         event,
-    })
+    }
 }
 
-pub(crate) fn ask(query: Query<&'static [u8]>) -> Command<Bytes, &'static [u8]> {
-    Command::Ask(query)
+fn query_of(question: Question) -> Query<&'static [u8]> {
+    let (selection, object) = (Selection::All, b"???".as_slice());
+    match question {
+        Question::Runs => Query::Runs,
+        Question::Groups => Query::Groups,
+        Question::Verify => Query::Verify(selection),
+        Question::Csv => Query::Csv(selection),
+        Question::Folded => Query::Folded(selection),
+        Question::By(key, event) => by(key, event, None, 100),
+        Question::CutBy(key, event, limit, threshold) => by(key, event, Some(limit), threshold),
+        Question::Inclusive(event) => Query::Inclusive { selection, event },
+        Question::Callers(event, function) => Query::Callers {
+            selection,
+            event,
+            object,
+            function,
+        },
+        Question::Callees(event, function) => Query::Callees {
+            selection,
+            event,
+            object,
+            function,
+        },
+        Question::Less(first, second, event) => {
+            less(Selection::Run(first), Some(Selection::Run(second)), event)
+        }
+        Question::LessBaseline(group, event) => less(Selection::Group(group), None, event),
+    }
+}
+
+fn command_of(asked: Asked) -> Command<Bytes, &'static [u8]> {
+    match asked {
+        Asked::Import(file) => import(Kind::Callgrind, b"a.out", file, PIECE),
+        Asked::ImportNothing => import(Kind::Callgrind, b"empty.out", b"", PIECE),
+        Asked::ImportSlowly(file) => import(Kind::Callgrind, b"a.out", file, 1),
+        Asked::ImportFolded(file) => import(Kind::Folded, b"a.folded", file, PIECE),
+        Asked::Remove(run) => Command::Remove(run),
+        Asked::MakeGroup(name) => Command::MakeGroup(name),
+        Asked::DropGroup(name) => Command::DropGroup(name),
+        Asked::Join(name, run) => Command::Join(name, run),
+        Asked::Leave(name, run) => Command::Leave(name, run),
+        Asked::SetBaseline(name, run) => Command::SetBaseline(name, run),
+        Asked::Annotate(event, file, left) => Command::Annotate {
+            selection: Selection::All,
+            event,
+            file,
+            source: Bytes { left, most: PIECE },
+        },
+        Asked::Ask(question) => Command::Ask(query_of(question)),
+    }
 }
 
 /// What is done over a warehouse. It is written over any store: what is called at the type of one takes a third of a minute to
@@ -142,9 +185,10 @@ struct Steps<'s> {
 
 impl Visit for Steps<'_> {
     fn visit<S: RunStore>(self, alloc: Global, warehouse: &mut Warehouse<S>) -> Result<(), Fail> {
-        for (command, wanted) in self.steps {
-            let mut source = source_of(command);
-            let answer = warehouse.perform(alloc, command, &mut source);
+        for (asked, wanted) in self.steps {
+            let command = command_of(*asked);
+            let mut source = source_of(&command);
+            let answer = warehouse.perform(alloc, &command, &mut source);
             let line = line_of(alloc, &answer)?;
             if line.as_slice() != wanted.as_bytes() {
                 Err(*wanted)?;
