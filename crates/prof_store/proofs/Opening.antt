@@ -37,7 +37,7 @@ use Rattle.store_schema.specs.Texts.{schema_sql}
 use Rattle.store_schema.proofs.Finds.{first_schema_found, row_there, schema_found}
 use Rattle.store_schema.proofs.Means.{first_schema_means, first_schema_plain, first_schema_unlisted, schema_terms, schema_shown, schema_order, schema_means, schema_plain, schema_unlisted}
 use Rattle.store_schema.specs.Migrated.{Migrates}
-use Rattle.prof_store.specs.Schemas.{IsAskedFor, IsFirstStore, IsOpenedBy, IsStore, Opened, OpensAs, SaysSchema, SaysSecond, SaysVersion, failed_opening}
+use Rattle.prof_store.specs.Schemas.{IsAskedFor, IsFirstStore, IsOpenedBy, IsStore, Opened, OpensAs, SaysSecond, SaysVersion, failed_opening}
 use Rattle.prof_store.specs.declared.open.Version.{Version}
 use Rattle.prof_store.specs.declared.open.Version.TheVariants as versions
 
@@ -90,20 +90,6 @@ module _ (old new : State) (version : Result Version OpenError) (h : IsAskedFor 
           let it = schema_found old new row was.schema_is shown in
           one_or_two (column row 0) (says.0.0 is) (it.2 ∙ was.says it.0 it.1)
       go (Err e) shown says = absurd (let both : Ok versions.First ≡ Err (failed_opening e) = sym is ∙ says in cc)
-
-  pub says_first : version ≡ Ok versions.First → SaysSchema old.now versions.First
-  says_first is has = go h.answer h.shown h.says
-    where
-      go : (answer : Result Row Error) → QueriesRow schema_sql [] old new answer → SaysVersion answer version → (r : Row) × Has (old.now.trees 0) r × (column r 2 ≡ Int (pos 1))
-      go (Ok row) shown says = let it = first_schema_found old new row has shown in (it.0, it.1, sym it.2 ∙ says.0.0 is)
-      go (Err e) shown says = absurd (let both : Ok versions.First ≡ Err (failed_opening e) = sym is ∙ says in cc)
-
-  pub says_second : version ≡ Ok versions.Second → SaysSchema old.now versions.Second
-  says_second is has = go h.answer h.shown h.says
-    where
-      go : (answer : Result Row Error) → QueriesRow schema_sql [] old new answer → SaysVersion answer version → (r : Row) × Has (old.now.trees 0) r × (column r 2 ≡ Int (pos 2))
-      go (Ok row) shown says = let it = schema_found old new row has shown in (it.0, it.1, sym it.2 ∙ says.1.0 is)
-      go (Err e) shown says = absurd (let both : Ok versions.Second ≡ Err (failed_opening e) = sym is ∙ says in cc)
 
 -- ---- what opening leaves
 
@@ -158,23 +144,6 @@ module _ {S : Type 0} (g : Ghosts S) (old new : Held S) (result : Result Unit Op
           asked_opened (is_ok result) (state g old) (state g new) (only (Ok versions.Second) asked opens.0 (ap is_ok opens.1)) (λ _ t was. not_second (state g old) (state g h.mid) (Ok versions.Second) asked t was refl)
       go (Err end) asked opens =
           asked_opened (is_ok result) (state g old) (state g new) (only (Err end) asked opens.0 (ap is_ok opens.1)) (λ is t was. let none : false ≡ true = sym (ap is_ok opens.1) ∙ is in absurd cc)
-
-  pub found_by : OnOk result (SaysSchema (state g old).now versions.First ⊎ SaysSchema (state g old).now versions.Second)
-  found_by = go h.version h.asked h.opens
-    where
-      any : (P : Type 0) (out : Result Unit OpenError) → P → OnOk out P
-      any P (Ok x) p = p
-      any P (Err e) p = tt
-
-      refused : (P : Type 0) (out : Result Unit OpenError) (end : OpenError) → out ≡ Err end → OnOk out P
-      refused P (Ok x) end is = absurd cc
-      refused P (Err e) end is = tt
-
-      go : (version : Result Version OpenError) → IsAskedFor version (state g old) (state g h.mid) → OpensAs g version h.mid new result
-          → OnOk result (SaysSchema (state g old).now versions.First ⊎ SaysSchema (state g old).now versions.Second)
-      go (Ok versions.First) asked opens = any _ result (inl (says_first (state g old) (state g h.mid) (Ok versions.First) asked refl))
-      go (Ok versions.Second) asked opens = any _ result (inr (says_second (state g old) (state g h.mid) (Ok versions.Second) asked refl))
-      go (Err end) asked opens = refused _ result end opens.1
 
 -- ---- a store is never refused for its schema
 

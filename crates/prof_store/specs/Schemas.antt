@@ -32,11 +32,6 @@ IsStore s = (t : Tables) × Rests schema_two (Holds t) s
 abbrev pub IsFirstStore : State → Type 0
 IsFirstStore s = (t : Tables) × Rests schema_one (HoldsFirst t) s
 
--- tables of a version say its number
-abbrev pub SaysSchema : Database → Version → Type 0
-SaysSchema now versions.First = now.schema ≡ schema_one → (r : Row) × Has (now.trees 0) r × (column r 2 ≡ Int (pos 1))
-SaysSchema now versions.Second = now.schema ≡ schema_two → (r : Row) × Has (now.trees 0) r × (column r 2 ≡ Int (pos 2))
-
 -- a question to a database of any schema
 abbrev pub AsksAny : Bool → State → State → Type 0
 AsksAny answered old new = HasCleanDisk new → Asked old.now.schema answered old new

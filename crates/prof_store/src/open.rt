@@ -6,7 +6,7 @@ ghost use Rattle.sqlite.specs.State.{HasCleanDisk, Survives, QueriesRow, Commits
 ghost use Rattle.sqlite_value.specs.declared.value.Value.TheVariants.{Int};
 ghost use Rattle.sqlite_value.specs.Order.{column};
 ghost use Rattle.store_schema.specs.Texts.{schema_sql};
-ghost use Rattle.prof_store.specs.Schemas.{IsAskedFor, IsFirstStore, IsOpenedBy, IsStore, Opened, OpensAs, SaysSchema, SaysVersion};
+ghost use Rattle.prof_store.specs.Schemas.{IsAskedFor, IsFirstStore, IsOpenedBy, IsStore, Opened, OpensAs, SaysVersion};
 ghost use Rattle.prof_store.specs.Shown.{shown, IsFaithful};
 ghost use Rattle.prof_store.specs.declared.open.Version.TheVariants as versions;
 ghost use Rattle.store_schema.specs.declared.errors.OpenError.TheVariants as ends;
@@ -104,8 +104,6 @@ impl<S: Alter> Store<S> {
         ensures why { IfErr result (λ e. HasCleanDisk (state S.Store e.1) → IsOpenedBy S.Store conn e.1 (Err e.0)) }
         ensures opened { IfOk result (λ store. IsFaithful S.Store store → Opened true (state S.Store conn) (shown S.Store store)) }
         ensures refused { IfErr result (λ e. HasCleanDisk (state S.Store e.1) → Opened false (state S.Store conn) (state S.Store e.1)) }
-        ensures found { IfOk result (λ store. IsFaithful S.Store store
-            → SaysSchema (state S.Store conn).now versions.First ⊎ SaysSchema (state S.Store conn).now versions.Second) }
         ensures right { IfErr result (λ e. HasCleanDisk (state S.Store e.1) → IsStore (state S.Store conn) ⊎ IsFirstStore (state S.Store conn)
             → e.0 ≢ ends.WrongSchema) }
     {

@@ -1,11 +1,8 @@
-use Rattle.prof_store.proofs.Opening.{opened_by, found_by, right_by}
+use Rattle.prof_store.proofs.Opening.{opened_by, right_by}
 use Rattle.prof_store.proofs.store.Store.open.Goals as goal
 
 pub returns-in-Ok-clause-opened : goal.returns-in-Ok-clause-opened
 returns-in-Ok-clause-opened g c clean = opened_by g.S.Store _ _ _ (c.in-Ok.ensures clean)
-
-pub returns-in-Ok-clause-found : goal.returns-in-Ok-clause-found
-returns-in-Ok-clause-found g c clean = found_by g.S.Store _ _ _ (c.in-Ok.ensures clean)
 
 pub returns-in-Err-clause-refused : goal.returns-in-Err-clause-refused
 returns-in-Err-clause-refused g c clean = opened_by g.S.Store _ _ _ (c.in-Err.ensures clean)
