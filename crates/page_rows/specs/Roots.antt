@@ -14,5 +14,5 @@ root_in_list kind name [] = None
 root_in_list kind name (entry ∷ entries) = if names_tree kind name entry then Some (page_number (column entry 4)) else root_in_list kind name entries
 
 -- there is such an entry, and it states this root page
-abbrev pub IsRootFound : List ℕ → List ℕ → List Row → Option ℕ → Type 0
-IsRootFound kind name entries root = (page : ℕ) × (root_in_list kind name entries ≡ Some page) × (root ≡ Some page)
+abbrev pub IsFoundIn : List ℕ → List ℕ → List Row → Option ℕ → Type 0
+IsFoundIn kind name entries root = (page : ℕ) × (root_in_list kind name entries ≡ Some page) × (root ≡ Some page)

@@ -46,7 +46,7 @@ struct Seeker<'n> {
 
 impl RowSink for Seeker<'_> {
     ghost use Rattle.std.specs.Prelude.{◌≡◌, ℕ, List, None, ⊤};
-    ghost use Rattle.page_rows.specs.Roots.{IsRootFound, root_in_list};
+    ghost use Rattle.page_rows.specs.Roots.{IsFoundIn, root_in_list};
 
     type Refusal = AllocError;
 
@@ -54,7 +54,7 @@ impl RowSink for Seeker<'_> {
 
     ghost Has = { λ start rows s. (s.kind.now ≡ start.0) × (s.name.now ≡ start.1) × (s.root ≡ None) × (root_in_list start.0 start.1 rows ≡ None) };
 
-    ghost Ends = { λ start rows s. IsRootFound start.0 start.1 rows s.root };
+    ghost Ends = { λ start rows s. IsFoundIn start.0 start.1 rows s.root };
 
     ghost Refuses = { λ _ _. ⊤ };
 
