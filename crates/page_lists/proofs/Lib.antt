@@ -1,6 +1,7 @@
 pub mod Among
 pub mod Chains
 pub mod Columns
+pub mod Entries
 pub mod HeadLists
 pub mod HeadTold
 pub mod Indexed
@@ -10,3 +11,4 @@ pub mod Rooting
 pub mod RunRows
 pub mod Shows
 pub mod SomeNames
+pub mod Zipped
