@@ -11,9 +11,9 @@ ghost use Rattle.sqlite_trees.specs.View.{Finds};
 ghost use Rattle.sqlite_value.specs.declared.keys.Order.{Order};
 ghost use Rattle.sqlite_store.specs.declared.catalog.Wanted.{Wanted};
 ghost use Rattle.sqlite_store.specs.Db.{table_row, roots_of};
-ghost use Rattle.page_rows.specs.Rows.{from_rowid};
+ghost use Rattle.page_rows.specs.Rows.{from_rowid, rows_of, HasTable};
 ghost use Rattle.page_rows.specs.Tables.{IsIndexNamed, IsNamed, root_of_tree};
-ghost use Rattle.page_rows.specs.Walks.{Walks};
+ghost use Rattle.page_rows.specs.Walks.{HasWalked, Walks};
 
 use page_edits::Scratch;
 use page_rows::{RowSink, WalkError};
@@ -124,6 +124,9 @@ impl<D: Disk> PageFile<D> {
         ensures done { IsFaithful self.new → (wanted : List Wanted) (t : ℕ) → ShowsTable wanted t root self.old
             → (start : T.Start) → T.Has start [] sink.old → Walks (FailsToRead self.old self.new) T.Has T.Ends T.Refuses start sink.new
             (from_rowid from (trees_of wanted self.old t)) result }
+        // Of any table, also of `sqlite_schema`, which is no tree of a schema.
+        ensures rows { IsFaithful self.new → HasTable (page_size self.old) (pages_of self.old) root → (start : T.Start) → T.Has start [] sink.old
+            → OnOk result (HasWalked T.Has T.Ends start (from_rowid from (rows_of (page_size self.old) (pages_of self.old) root)) sink.new) }
         ensures reads { OnlyReads self.old self.new }
         ensures usable { OnOk result (IsUsable self.new) }
     {

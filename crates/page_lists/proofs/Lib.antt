@@ -1,6 +1,7 @@
 pub mod Among
 pub mod Chains
 pub mod Columns
+pub mod Entries
 pub mod HeadLists
 pub mod HeadTold
 pub mod Indexed
@@ -11,3 +12,4 @@ pub mod RunRows
 pub mod Said
 pub mod Shows
 pub mod SomeNames
+pub mod Zipped

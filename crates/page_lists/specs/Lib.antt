@@ -1,4 +1,6 @@
+pub mod Alike
 pub mod Among
+pub mod Entries
 pub mod Indexed
 pub mod Lists
 pub mod Meta

@@ -3,6 +3,7 @@ ghost use Rattle.std.specs.Prelude.{◌≡◌, ℕ, List, IfOk, OnOk};
 ghost use Rattle.sqlite_trees.specs.Tree.{Trees};
 ghost use Rattle.page_files.specs.Files.{IsFaithful, IsUsable, OnlyReads};
 ghost use Rattle.page_places.specs.Roots.{AreRoots, IsStoreOf};
+ghost use Rattle.page_lists.specs.Entries.{entries_in, AreOpened, HasSchema};
 ghost use Rattle.page_lists.specs.Indexed.{AreIndexed};
 ghost use Rattle.page_lists.specs.Lists.{AreListedFrom};
 
@@ -25,6 +26,7 @@ fn read_store<D: Disk>(
     ensures read { IsFaithful file.new → (db : Trees) (known : List ℕ) → IsStoreOf file.old db known
         → IfOk result (λ r. AreRoots known r.0 × AreListedFrom db r.1) }
     ensures indexed { IfOk result (λ r. IsFaithful file.new → AreIndexed r.0 r.1 file.old) }
+    ensures tables { IfOk result (λ r. IsFaithful file.new → HasSchema file.old → AreOpened (entries_in file.old) r.2) }
     ensures usable { OnOk result (IsUsable file.new) }
     ensures reads { OnlyReads file.old file.new }
 {
@@ -49,6 +51,7 @@ pub fn open_store<D: Disk + Drop>(
     ensures opened { IfOk result (λ r. IsFaithful r.0 → (db : Trees) (known : List ℕ) → IsStoreOf file db known
         → AreRoots known r.1 × AreListedFrom db r.2) }
     ensures indexed { IfOk result (λ r. IsFaithful r.0 → AreIndexed r.1 r.2 file) }
+    ensures tables { IfOk result (λ r. IsFaithful r.0 → HasSchema file → AreOpened (entries_in file) r.3) }
     ensures usable { IfOk result (λ r. IsUsable r.0) }
     ensures reads { IfOk result (λ r. OnlyReads file r.0) }
 {

@@ -1,7 +1,11 @@
 // Whether a file has our tables.
-ghost use Rattle.std.specs.Prelude.{◌≡◌, ◌<◌, map, IfSome};
-ghost use Rattle.page_files.specs.Files.{OnlyReads};
-ghost use Rattle.page_lists.specs.Texts.{alone_in, failure_of_entries, table_texts};
+ghost use Rattle.std.specs.Prelude.{◌≡◌, ◌<◌, ◌||◌, false, map, IfOk, IfSome, IsTrue, OnOk};
+ghost use Rattle.sqlite_trees.specs.Sound.{is_text};
+ghost use Rattle.sqlite_value.specs.Order.{column};
+ghost use Rattle.sqlite_value.specs.Value.{owned};
+ghost use Rattle.page_files.specs.Files.{IsFaithful, OnlyReads};
+ghost use Rattle.page_lists.specs.Entries.{entries_in, is_added, place_in_schema, place_named, AreCounted, HasSchema, IsCounted, IsFoundOf, IsMadeAs};
+ghost use Rattle.page_lists.specs.Texts.{alone_in, failure_of_entries, our_text, table_texts};
 
 use crate::alike::have_same_rows;
 use page_files::PageFile;
@@ -65,23 +69,30 @@ impl Found {
 }
 
 /// The place in schema 2 of the table that a column of an entry of `sqlite_schema` names.
-fn place_of_table(entry: &Row, column: usize) -> Option<usize>
-    ensures { IfSome result (λ at. at < 11) }
+fn place_of_table(entry: &Row, at: usize) -> Option<usize>
+    ensures named { result ≡ place_named (column entry.now at) }
+    ensures within { IfSome result (λ place. place < 11) }
 {
     let names = TABLE_NAMES;
-    for at in 0..11 {
-        if is_word(names[at].as_bytes(), entry.get(column)) {
-            return Some(at);
-        }
-    }
-    None
+    names
+        .iter()
+        .position(|name| is_word(name.as_bytes(), entry.get(at)))
+}
+
+/// Our text of the table at a place of schema 2.
+fn text_of_table(at: usize) -> &'static [u8]
+    requires { at < 11 }
+    ensures { result.now ≡ our_text at }
+{
+    texts_of_tables()[at].as_bytes()
 }
 
 /// Whether an entry of `sqlite_schema` is the table at a place of schema 2: made by our text, or with the same rows.
 fn is_table_at(alloc: Global, entry: &Row, at: usize) -> Result<bool, AllocError>
     requires { at < 11 }
+    ensures { IfOk result (λ is. IsTrue is → IsMadeAs at entry.now) }
 {
-    let ours = texts_of_tables()[at].as_bytes();
+    let ours = text_of_table(at);
     match entry.get(5) {
         ValueRef::Text(text) if text == ours => Ok(true),
         ValueRef::Text(text) => have_same_rows(alloc, text, ours),
@@ -89,11 +100,20 @@ fn is_table_at(alloc: Global, entry: &Row, at: usize) -> Result<bool, AllocError
     }
 }
 
-/// Whether an entry of `sqlite_schema` is an index with a text of its own, or a trigger. An index that a table has by its
-/// text has none.
-fn is_added(entry: &Row) -> bool {
-    is_word(b"trigger", entry.get(1))
-        || (is_word(b"index", entry.get(1)) && matches!(entry.get(5), ValueRef::Text(_)))
+/// Whether a value is text.
+fn is_text(value: ValueRef<'_>) -> bool
+    ensures { result ≡ is_text (owned value.entry) }
+{
+    matches!(value, ValueRef::Text(_))
+}
+
+/// Whether an entry of `sqlite_schema` is an index with a text of its own, or a trigger, and stands on one of our tables.
+/// An index that a table has by its text has none.
+fn is_added(entry: &Row) -> bool
+    ensures { result ≡ is_added entry.now }
+{
+    (is_word(b"trigger", entry.get(1)) | (is_word(b"index", entry.get(1)) & is_text(entry.get(5))))
+        & place_of_table(entry, 3).is_some()
 }
 
 /// Takes the entries of `sqlite_schema`, as long as those with the names of our tables are ours.
@@ -108,39 +128,67 @@ struct Listed {
 
 impl Listed {
     /// Takes the entry of a table.
-    fn take_table(&mut self) -> Result<(), AllocError> {
+    fn take_table(&mut self) -> Result<(), AllocError>
+        ensures counted { OnOk result (self.new.has_other ≡ false
+            → IsCounted (place_named (column self.old.entry 2)) self.old.entry self.old.ours self.new.ours) }
+        ensures more { OnOk result (self.new.has_more ≡ self.old.has_more) }
+    {
         let Some(at) = place_of_table(&self.entry, 2) else {
             return Ok(());
         };
-        if is_table_at(self.alloc, &self.entry, at)? {
-            self.ours = self.ours.saturating_add(1);
-        } else {
+        if !is_table_at(self.alloc, &self.entry, at)? {
             self.has_other = true;
+            return Ok(());
         }
+        self.ours = self.ours.saturating_add(1);
         Ok(())
+    }
+
+    /// Takes the entry that was read.
+    fn take_entry(&mut self) -> Result<(), AllocError>
+        ensures counted { OnOk result (self.new.has_other ≡ false
+            → IsCounted (place_in_schema self.old.entry) self.old.entry self.old.ours self.new.ours) }
+        ensures more { OnOk result (self.new.has_more ≡ (self.old.has_more || is_added self.old.entry)) }
+    {
+        self.has_more |= is_added(&self.entry);
+        if is_word(b"table", self.entry.get(1)) {
+            self.take_table()
+        } else {
+            Ok(())
+        }
+    }
+
+    /// Whose tables the entries are, where all of them were taken.
+    fn tables_found(&self) -> Found
+        ensures { (entries : _) → (self.now.has_other ≡ false → AreCounted entries self.now.ours self.now.has_more) → IsFoundOf entries result }
+    {
+        if self.ours != 11 || self.has_other {
+            Found::Others
+        } else if self.has_more {
+            Found::OursWithMore
+        } else {
+            Found::Ours
+        }
     }
 }
 
 impl RowSink for Listed {
-    ghost use Rattle.std.specs.Prelude.{⊤};
+    ghost use Rattle.std.specs.Prelude.{◌≡◌, true, ⊤};
+    ghost use Rattle.page_lists.specs.Entries.{AreCounted};
 
     type Refusal = AllocError;
 
     ghost Start = { Unit {0} };
 
-    ghost Has = { λ _ _ _. ⊤ };
+    ghost Has = { λ _ entries s. AreCounted entries s.ours s.has_more };
 
-    ghost Ends = { λ _ _ _. ⊤ };
+    ghost Ends = { λ _ _ s. s.has_other ≡ true };
 
     ghost Refuses = { λ _ _. ⊤ };
 
     fn take(&mut self, rowid: i64, payload: &[u8]) -> Result<bool, AllocError> {
         read_row(rowid, payload, &mut self.entry)?;
-        if is_word(b"table", self.entry.get(1)) {
-            self.take_table()?;
-        } else if is_added(&self.entry) && place_of_table(&self.entry, 3).is_some() {
-            self.has_more = true;
-        }
+        self.take_entry()?;
         Ok(!self.has_other)
     }
 }
@@ -156,12 +204,13 @@ fn error_of_entries(error: WalkError<AllocError>) -> StoreError
 }
 
 /// Whose tables a file has. Ours are those of schema 2, with our columns and keys, so that their rows and those of their
-/// indexes are as we read and write them. Other tables and views may stand beside them. No clause says so: only that
-/// the file is read. `Memory`; `Store` where a page cannot be read.
+/// indexes are as we read and write them. Other tables and views may stand beside them. That others are no tables of ours,
+/// no clause says. `Memory`; `Store` where a page cannot be read.
 pub(crate) fn find_tables<D: Disk>(
     file: &mut PageFile<D>,
     alloc: Global,
 ) -> Result<Found, StoreError>
+    ensures found { IsFaithful file.new → HasSchema file.old → IfOk result (IsFoundOf (entries_in file.old)) }
     ensures reads { OnlyReads file.old file.new }
 {
     let mut listed = Listed {
@@ -172,9 +221,7 @@ pub(crate) fn find_tables<D: Disk>(
         has_more: false,
     };
     match file.walk(alloc, SCHEMA_ROOT, i64::MIN, &mut listed) {
-        Ok(()) if listed.ours != 11 || listed.has_other => Ok(Found::Others),
-        Ok(()) if listed.has_more => Ok(Found::OursWithMore),
-        Ok(()) => Ok(Found::Ours),
+        Ok(()) => Ok(listed.tables_found()),
         Err(error) => Err(error_of_entries(error)),
     }
 }

@@ -1,4 +1,4 @@
-mod Cuts
+pub mod Cuts
 mod Entries
 pub mod FileIndexes
 pub mod FileTables

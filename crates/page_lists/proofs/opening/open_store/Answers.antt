@@ -24,3 +24,9 @@ returns-clause-usable g c = c.in_ok-roots.ensures.usable
 
 pub returns-clause-reads : goal.returns-clause-reads
 returns-clause-reads g c = c.read_store.ensures.reads
+
+pub returns-in_err-roots-clause-tables : goal.returns-in_err-roots-clause-tables
+returns-in_err-roots-clause-tables g c = IfOk-from_err c.from_residual.result _ c.from_residual.ensures.0
+
+pub returns-clause-tables : goal.returns-clause-tables
+returns-clause-tables g c = c.in_ok-roots.ensures.tables

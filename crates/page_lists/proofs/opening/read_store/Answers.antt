@@ -1,5 +1,6 @@
 use Rattle.std.proofs.lemmas.Result.{IfOk-from_err}
 use Rattle.page_lists.proofs.Chains.{◌⊳◌}
+use Rattle.page_lists.proofs.Entries.{opened}
 use Rattle.page_places.proofs.Rooting.{store_after}
 use Rattle.page_lists.proofs.Indexed.{indexed_before}
 use Rattle.page_lists.proofs.Rooting.{tables_show}
@@ -83,3 +84,25 @@ returns-in-Err-clause-usable g c = tt
 
 pub returns-in-Ok-clause-usable : goal.returns-in-Ok-clause-usable
 returns-in-Ok-clause-usable g c = c.in-Ok.ensures.usable
+
+pub returns-in-Ok-clause-tables : goal.returns-in-Ok-clause-tables
+returns-in-Ok-clause-tables g c faithful has =
+    let listed = c.check_indexes.ensures.reads.keeps.stays.clean faithful in
+    let rooted = c.read_lists.ensures.reads.keeps.stays.clean listed in
+    let found = c.find_roots.ensures.reads.keeps.stays.clean rooted in
+    opened _ _ _ c.in_ok-is_alone.ensures (c.in_ok-find_tables.ensures.found found has)
+
+pub returns-in_err-find_tables-clause-tables : goal.returns-in_err-find_tables-clause-tables
+returns-in_err-find_tables-clause-tables g c = IfOk-from_err c.from_residual.result _ c.from_residual.ensures.0
+
+pub returns-in_err-is_alone-clause-tables : goal.returns-in_err-is_alone-clause-tables
+returns-in_err-is_alone-clause-tables g c = IfOk-from_err c.from_residual-in_err-is_alone.result _ c.from_residual-in_err-is_alone.ensures.0
+
+pub returns-in_err-roots-clause-tables : goal.returns-in_err-roots-clause-tables
+returns-in_err-roots-clause-tables g c = IfOk-from_err c.from_residual-in_err-roots.result _ c.from_residual-in_err-roots.ensures.0
+
+pub returns-in_err-lists-clause-tables : goal.returns-in_err-lists-clause-tables
+returns-in_err-lists-clause-tables g c = IfOk-from_err c.from_residual-in_err-lists.result _ c.from_residual-in_err-lists.ensures.0
+
+pub returns-in-Err-clause-tables : goal.returns-in-Err-clause-tables
+returns-in-Err-clause-tables g c = tt
