@@ -11,6 +11,7 @@ ghost use Rattle.run_lists.specs.Listed.{AreListed};
 ghost use Rattle.run_lists.specs.RowSums.{calls_of_run, cells_of_run, stacks_of_run};
 ghost use Rattle.page_runs.specs.Finished.{Commits, Finishes};
 ghost use Rattle.page_runs.specs.PartSums.{IsRunTable};
+ghost use Rattle.page_lists.specs.Entries.{entries_in, AreOpened, HasSchema};
 ghost use Rattle.page_lists.specs.Sizes.{IsSizeOf};
 ghost use Rattle.page_runs.specs.States.{IsFaithful, ReadsImage, RepresentsImage, state_of};
 ghost use Rattle.run_stores.specs.Calls.{Asks};
@@ -77,6 +78,7 @@ impl<D: Disk + Drop> PageRuns<D> {
         ensures size { IfOk result (λ store. IsFaithful store → IsSizeOf (seen_image D.Disk files.log files.db) (page_size store.file)) }
         ensures represents { IfOk result (λ store. IsFaithful store → RepresentsImage (seen_image D.Disk files.log files.db) store) }
         ensures reads { IfOk result (λ store. IsFaithful store → ReadsImage (seen_image D.Disk files.log files.db) store) }
+        ensures tables { IfOk result (λ store. IsFaithful store → HasSchema store.file → AreOpened (entries_in store.file) store.is_alone) }
         ensures crash { IfOk result (λ store. AddsNothing (page_size store.file) (outcomes D.Disk files.log files.db) (files_may_leave store.file)) }
         ensures keeps { IfOk result (λ store. store.kept_cells.limit ≡ cells_to_keep) }
     {

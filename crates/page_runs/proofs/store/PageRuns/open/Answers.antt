@@ -1,4 +1,4 @@
-use Rattle.std.proofs.Common.{sym, subst}
+use Rattle.std.proofs.Common.{sym, subst, subst₂}
 use Rattle.sqlite_pool.specs.StoredLaws.{AddsNothing-trans}
 use Rattle.sqlite_wal.specs.Files.{outcomes, seen_image}
 use Rattle.sqlite_pool.specs.Stored.{AddsNothing}
@@ -12,6 +12,8 @@ use Rattle.prof_store.proofs.Told.{held_said}
 use Rattle.page_runs.proofs.Taken.{reads_as, represents_as}
 use Rattle.std.proofs.lemmas.Result.{IfOk-from_err}
 use Rattle.page_lists.specs.Sizes.{IsSizeOf}
+use Rattle.page_lists.specs.Entries.{AreOpened}
+use Rattle.page_rows.specs.Rows.{HasTable, rows_of}
 use Rattle.page_runs.proofs.store.PageRuns.open.Goals as goal
 
 pub returns-clause-represents : goal.returns-clause-represents
@@ -39,6 +41,13 @@ returns-clause-reads g c = λ faithful t is.
     let (roots, listed) = c.in_ok-file.ensures.opened faithful is.db _ (store_resting opened is.db _ _ rests is.says.names.sound) in
     reads_as t store is.db _ (rests_after opened c.in_ok-file.file reads faithful c.in_ok-file.ensures.usable rests) is.says roots (listed t is.says.says)
     (c.new-2.ensures.nothing t) c.in_ok-file.ensures.usable
+
+pub returns-clause-tables : goal.returns-clause-tables
+returns-clause-tables g c = λ faithful has.
+    let reads = c.in_ok-file.ensures.reads in
+    let size = reads.keeps.stays.size in
+    subst₂ (λ n p. AreOpened (rows_of n p 1) c.in_ok-file.is_alone) (sym size) (sym reads.pages)
+    (c.in_ok-file.ensures.tables faithful (subst₂ (λ n p. HasTable n p 1) size reads.pages has))
 
 pub returns-clause-crash : goal.returns-clause-crash
 returns-clause-crash g c =
@@ -93,3 +102,9 @@ returns-in_err-opened-clause-reads g c = IfOk-from_err c.from_residual.result _ 
 
 pub returns-in_err-file-clause-reads : goal.returns-in_err-file-clause-reads
 returns-in_err-file-clause-reads g c = IfOk-from_err c.from_residual-in_err-file.result _ c.from_residual-in_err-file.ensures.0
+
+pub returns-in_err-opened-clause-tables : goal.returns-in_err-opened-clause-tables
+returns-in_err-opened-clause-tables g c = IfOk-from_err c.from_residual.result _ c.from_residual.ensures.0
+
+pub returns-in_err-file-clause-tables : goal.returns-in_err-file-clause-tables
+returns-in_err-file-clause-tables g c = IfOk-from_err c.from_residual-in_err-file.result _ c.from_residual-in_err-file.ensures.0
