@@ -44,6 +44,9 @@ NeedsLimit rows = Any (λ (limit : Option ℕ). IfSome limit IsLimit × HasNumbe
 abbrev NeedsThreshold : List Row → Type 0
 NeedsThreshold rows = Any (λ (percent : ℕ). (percent ≤ 100) × HasNumber rows (codes "threshold") (Some percent))
 
+abbrev NeedsPort : List Row → Type 0
+NeedsPort rows = Any (λ (port : ℕ). IsPort port × HasNumber rows (codes "port") (Some port))
+
 abbrev NeedsNumber : List Row → Text → (ℕ → Type 0) → Type 0
 NeedsNumber rows id P = Any (λ (number : ℕ). P number × SaysNumber rows id number)
 
@@ -70,7 +73,7 @@ Needs name rows =
     (MatchBool (bytes_eq name (codes "csv")) (NeedsSelection rows)
     (MatchBool (bytes_eq name (codes "folded")) (NeedsSelection rows)
     (MatchBool (bytes_eq name (codes "serve"))
-    (NeedsNumber rows (codes "port") IsPort × NeedsNumber rows (codes "requests") IsRequestCount × NeedsNumber rows (codes "most-bytes") IsByteCount)
+    (NeedsPort rows × NeedsNumber rows (codes "requests") IsRequestCount × NeedsNumber rows (codes "most-bytes") IsByteCount)
     (Unit {0})))))))))))))))))
 
 texts_some : (files : List (Bor Text)) → files ≢ [] → map (λ file. file.now) files ≢ []

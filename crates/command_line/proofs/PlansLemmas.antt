@@ -14,7 +14,7 @@ use Rattle.clap.specs.Matches.{ReadsOne, TriesOne, first_value, matched_of, one_
 use Rattle.clap.specs.Walk.{Row, Text, all_of, first_of, one_of, rows_of}
 use Rattle.clap.specs.declared.parser.matches.Found.{Found}
 use Rattle.clap.proofs.WalkLemmas.{first_value-rows, one_text-rows, raw_values-rows}
-use Rattle.command_line.specs.Plans.{HasLess, HasNumber, HasRuns, HasSelectionBy, HasWord, HasWords, HaveRuns, IsFlag, IsLimit, IsNumber, IsRunNumber, IsSoundSelection, NoneIs, SaysRun, number_of}
+use Rattle.command_line.specs.Plans.{HasLess, HasNumber, HasRuns, HasSelectionBy, HasWord, HasWords, HaveRuns, IsFlag, IsLimit, IsNumber, IsPort, IsRunNumber, IsSoundSelection, NoneIs, SaysRun, number_of}
 
 pub word_found : (f : Found) (id : Text) (r : Option (Bor Text)) → option_map (λ s. s.now) r ≡ first_value f id → IfSome r (λ w. HasWord (rows_of f) id w.now)
 word_found f id None e = tt
@@ -167,6 +167,16 @@ no_number_read k (Some t) n fits some says = let given = some t refl in not_said
 pub no_option_read : (k : ℕ) (f : Found) (id : Text) (n : ℕ) → n < 2 ^ k → ((t : Text) → one_text f id ≡ Some t → ReadsOne (Gives k) t None) → HasNumber (rows_of f) id (Some n) → ⊥
 no_option_read k f id n fits some says = no_number_read k (one_of id (rows_of f)) n fits (λ t e. some t (one_text-rows f id ∙ e)) says
 
+pub option_got : (k : ℕ) (f : Found) (id : Text) (r : Option ℕ) → (one_text f id ≡ None → r ≡ None) → ((t : Text) → one_text f id ≡ Some t → ReadsOne (Gives k) t r)
+    → IfSome r (λ number. HasNumber (rows_of f) id (Some number))
+option_got k f id None none some = tt
+option_got k f id (Some n) none some = option_read k f id n none some
+
+pub no_option_got : (k : ℕ) (P : ℕ → Type 0) (f : Found) (id : Text) (r : Option ℕ) → ((n : ℕ) → P n → n < 2 ^ k) → ((t : Text) → one_text f id ≡ Some t → ReadsOne (Gives k) t r)
+    → IfNone r (NoneIs (λ number. P number × HasNumber (rows_of f) id (Some number)))
+no_option_got k P f id (Some n) fits some = tt
+no_option_got k P f id None fits some = λ number is. no_option_read k f id number (fits number is.0) some is.1
+
 -- at most one number is read
 pub one_number : (rows : List Row) (id : Text) (m n : ℕ) → HasNumber rows id (Some m) → HasNumber rows id (Some n) → m ≡ n
 one_number rows id m n one other = same_Some m n (sym one.0 ∙ other.0)
@@ -177,6 +187,9 @@ above_most rows id most m has above n (within, says) = let same : m ≡ n = one_
 
 pub within_byte : (n : ℕ) → n ≤ 100 → n < 2 ^ 8
 within_byte n within = omega arith
+
+pub port_fits : (n : ℕ) → IsPort n → n < 2 ^ 16
+port_fits n within = omega arith
 
 pub limit_fits : (n : ℕ) → IsLimit n → n < 2 ^ 32
 limit_fits n within = omega arith

@@ -196,7 +196,7 @@ IsPlanOf name rows (plans.Annotate db runs event file source) =
 IsPlanOf name rows (plans.Csv db runs) = (name ≡ codes "csv") × HasWord rows (codes "db") db.now × HasSelection rows runs
 IsPlanOf name rows (plans.Folded db runs) = (name ≡ codes "folded") × HasWord rows (codes "db") db.now × HasSelection rows runs
 IsPlanOf name rows (plans.Serve db port requests most_bytes log) =
-    (name ≡ codes "serve") × HasWord rows (codes "db") db.now × SaysNumber rows (codes "port") port
+    (name ≡ codes "serve") × HasWord rows (codes "db") db.now × HasNumber rows (codes "port") (Some port)
     × SaysNumber rows (codes "requests") requests × SaysNumber rows (codes "most-bytes") most_bytes × IsFlag (one_of (codes "log") rows) log
 
 -- what is said of a plan for a subcommand

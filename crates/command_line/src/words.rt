@@ -193,10 +193,10 @@ pub fn threshold(words: &ArgMatches<'_>) -> Option<u8>
 /// The port that was named.
 pub fn port(words: &ArgMatches<'_>) -> Option<u16>
     ensures range { IfSome result IsPort }
-    ensures number { IfSome result (SaysNumber (rows_of (found_of words.now)) (codes "port")) }
-    ensures none { IfNone result (NoneIs (λ port. IsPort port × SaysNumber (rows_of (found_of words.now)) (codes "port") port)) }
+    ensures number { IfSome result (λ port. HasNumber (rows_of (found_of words.now)) (codes "port") (Some port)) }
+    ensures none { IfNone result (NoneIs (λ port. IsPort port × HasNumber (rows_of (found_of words.now)) (codes "port") (Some port))) }
 {
-    word(words, "port")?.parse::<u16>().ok()
+    words.get_one::<u16>("port")
 }
 
 /// How many requests are answered.
