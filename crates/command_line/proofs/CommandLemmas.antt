@@ -10,7 +10,7 @@ use Rattle.command_line.specs.declared.plans.Plan.{Plan}
 use Rattle.command_line.specs.declared.plans.PlanEnd.{PlanEnd}
 use Rattle.command_line.specs.declared.plans.PlanEnd.TheVariants.{Memory, RunAndGroup, LessRunAndLessGroup, Clap}
 use Rattle.command_line.specs.Grammar.{IsCommandLine, command_line}
-use Rattle.command_line.specs.Plans.{AreApart, AreBothLessNamed, AreBothNamed, IsEndBy, IsEndFor, IsEndFound, IsPlanFor, IsPlannedFor}
+use Rattle.command_line.specs.Plans.{AreApart, AreBothLessNamed, AreBothNamed, HasNoPlan, IsEndBy, IsEndFor, IsEndFound, IsPlanFor, IsPlannedFor}
 
 -- ---- the command line is one of those of which clap's definitions say all
 
@@ -64,6 +64,7 @@ both_named a m words LessRunAndLessGroup line matches none found =
 both_named a m words (Clap error) line matches none found = absurd found
 
 pub no_plan : (a : App) (m : ArgMatches) (words : List Text) (error : Error) → IsCommandLine a → HasMatchesOf a words m → (is_simple_and_free a ≡ true → fault_of a words ≡ [])
-    → AreApart (subcommand_rows_of m) → IsEndFor words (Clap error)
-no_plan a m words error line matches none apart =
-    (a, line, ((λ some. absurd (some (none (free a line)))), (λ _. subst AreApart (matches (simple a line)).1 apart)))
+    → AreApart (subcommand_rows_of m) → HasNoPlan (subcommand_rows_of m) → IsEndFor words (Clap error)
+no_plan a m words error line matches none apart nothing =
+    let same = (matches (simple a line)).1 in
+    (a, line, ((λ some. absurd (some (none (free a line)))), (λ _. (subst AreApart same apart, subst HasNoPlan same nothing))))

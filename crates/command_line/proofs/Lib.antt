@@ -1,3 +1,4 @@
 pub mod PlansLemmas
 pub mod CommandLemmas
+pub mod NoPlanLemmas
 mod GrammarLemmas

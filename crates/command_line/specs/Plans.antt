@@ -1,5 +1,5 @@
 -- What a plan has of the words of a command line.
-use Rattle.std.specs.Prelude.{◌≡◌, ◌≢◌, ◌≤◌, ℕ, Bool, true, false, List, [], map, Option, Some, None, IsSome, option_map, codes, IfSome}
+use Rattle.std.specs.Prelude.{◌≡◌, ◌≢◌, ◌≤◌, ◌⊎◌, ℕ, Bool, true, false, List, [], ◌∷◌, map, Option, Some, None, IsSome, option_map, codes, IfSome}
 use Rattle.std.specs.List.{All}
 use Rattle.std.specs.Str.Parse.{IsNumeral, digits_value, without_leading_plus}
 use Rattle.clap.specs.Faults.{fault_of}
@@ -44,9 +44,21 @@ IsRequestCount n = IsUpTo 1000000 n
 abbrev pub IsByteCount : ℕ → Type 0
 IsByteCount n = IsUpTo 4294967295 n
 
+-- a limit on rows
+abbrev pub IsLimit : ℕ → Type 0
+IsLimit n = n ≤ 4294967295
+
+-- a port; 0 means any that is free
+abbrev pub IsPort : ℕ → Type 0
+IsPort n = n ≤ 65535
+
+-- decimal digits; a plus may stand first
+abbrev pub IsNumber : Text → Type 0
+IsNumber text = IsNumeral 10 (without_leading_plus text)
+
 -- decimal digits that say such a number
 abbrev pub SaysUpTo : ℕ → Text → Type 0
-SaysUpTo most text = IsNumeral 10 (without_leading_plus text) × IsUpTo most (number_of text)
+SaysUpTo most text = IsNumber text × IsUpTo most (number_of text)
 
 -- those that say the number of a run
 abbrev pub SaysRun : Text → Type 0
@@ -59,14 +71,14 @@ IsSoundSelection selections.All = Unit {0}
 IsSoundSelection (selections.Run number) = IsRunNumber number
 IsSoundSelection (selections.Group name) = Unit {0}
 
--- numbers of runs, of requests and of bytes are in their range, where a list is wanted it has one item at least, and a threshold is one in percent
+-- numbers of runs, rows, ports, requests and bytes are in their range, where a list is wanted it has one item at least, and a threshold is one in percent
 abbrev pub IsSound : Plan → Type 0
 IsSound (Import db kind files) = files ≢ []
 IsSound (Remove db numbers) = (numbers ≢ []) × All IsRunNumber numbers
 IsSound (Join db name number) = IsRunNumber number
 IsSound (Leave db name number) = IsRunNumber number
 IsSound (Baseline db name number) = IsRunNumber number
-IsSound (By db runs event limit threshold key) = IsSoundSelection runs × (threshold ≤ 100)
+IsSound (By db runs event limit threshold key) = IsSoundSelection runs × IfSome limit IsLimit × (threshold ≤ 100)
 IsSound (Inclusive db runs event) = IsSoundSelection runs
 IsSound (Callers db runs event object function) = IsSoundSelection runs
 IsSound (Callees db runs event object function) = IsSoundSelection runs
@@ -75,7 +87,7 @@ IsSound (Verify db runs) = IsSoundSelection runs
 IsSound (plans.Annotate db runs event file source) = IsSoundSelection runs
 IsSound (plans.Csv db runs) = IsSoundSelection runs
 IsSound (plans.Folded db runs) = IsSoundSelection runs
-IsSound (plans.Serve db port requests most_bytes log) = IsRequestCount requests × IsByteCount most_bytes
+IsSound (plans.Serve db port requests most_bytes log) = IsPort port × IsRequestCount requests × IsByteCount most_bytes
 IsSound plan = Unit {0}
 
 -- ---- where a plan has its parts from
@@ -93,21 +105,21 @@ is_folded Callgrind = false
 abbrev pub HasWord : List Row → Text → Text → Type 0
 HasWord rows id word = first_of id rows ≡ Some word
 
--- the number that the word of an argument says
+-- the number that the word of an argument says by digits
 abbrev pub SaysNumber : List Row → Text → ℕ → Type 0
-SaysNumber rows id number = option_map number_of (first_of id rows) ≡ Some number
+SaysNumber rows id number = (option_map number_of (first_of id rows) ≡ Some number) × IfSome (first_of id rows) IsNumber
 
 abbrev pub HasRun : List Row → ℕ → Type 0
 HasRun rows number = SaysNumber rows (codes "N") number
 
--- the number of an option, where it has one
+-- the number that an option says by digits, where it has one
 abbrev pub HasNumber : List Row → Text → Option ℕ → Type 0
-HasNumber rows id number = option_map number_of (one_of id rows) ≡ number
+HasNumber rows id number = (option_map number_of (one_of id rows) ≡ number) × IfSome (one_of id rows) IsNumber
 
 -- the runs that two options select: those of a group, one run, or all where neither is given
 abbrev pub HasSelectionBy : Text → Text → List Row → LentSelection → Type 0
 HasSelectionBy run group rows selections.All = (first_of run rows ≡ None) × (first_of group rows ≡ None)
-HasSelectionBy run group rows (selections.Run number) = (option_map number_of (first_of run rows) ≡ Some number) × (first_of group rows ≡ None)
+HasSelectionBy run group rows (selections.Run number) = SaysNumber rows run number × (first_of group rows ≡ None)
 HasSelectionBy run group rows (selections.Group name) = (first_of run rows ≡ None) × HasWord rows group name.now
 
 abbrev pub HasSelection : List Row → LentSelection → Type 0
@@ -127,9 +139,21 @@ key_word Function = codes "function"
 key_word Line = codes "line"
 key_word Thread = codes "thread"
 
--- the numbers that the words of an argument say
+-- the numbers that the words of an argument say, each by digits
 abbrev pub HaveRuns : List Row → List ℕ → Type 0
-HaveRuns rows numbers = option_map (map number_of) (all_of (codes "N") rows) ≡ Some numbers
+HaveRuns rows numbers = (option_map (map number_of) (all_of (codes "N") rows) ≡ Some numbers) × IfSome (all_of (codes "N") rows) (All IsNumber)
+
+-- the words of an argument that takes several: one at least
+abbrev pub HasWords : List Row → Text → List Text → Type 0
+HasWords rows id texts = (texts ≢ []) × (all_of id rows ≡ Some texts)
+
+-- the runs that were named: one at least
+abbrev pub HasRuns : List Row → List ℕ → Type 0
+HasRuns rows numbers = (numbers ≢ []) × All IsRunNumber numbers × HaveRuns rows numbers
+
+-- the group and the run that were named
+abbrev pub HasMember : List Row → Text × ℕ → Type 0
+HasMember rows found = HasWord rows (codes "NAME") found.0 × IsRunNumber found.1 × HasRun rows found.1
 
 -- the plan for a subcommand, by its name and what was found of its arguments
 abbrev pub IsPlanOf : Text → List Row → Plan → Type 0
@@ -172,7 +196,7 @@ IsPlanOf name rows (plans.Annotate db runs event file source) =
 IsPlanOf name rows (plans.Csv db runs) = (name ≡ codes "csv") × HasWord rows (codes "db") db.now × HasSelection rows runs
 IsPlanOf name rows (plans.Folded db runs) = (name ≡ codes "folded") × HasWord rows (codes "db") db.now × HasSelection rows runs
 IsPlanOf name rows (plans.Serve db port requests most_bytes log) =
-    (name ≡ codes "serve") × HasWord rows (codes "db") db.now × SaysNumber rows (codes "port") port
+    (name ≡ codes "serve") × HasWord rows (codes "db") db.now × HasNumber rows (codes "port") (Some port)
     × SaysNumber rows (codes "requests") requests × SaysNumber rows (codes "most-bytes") most_bytes × IsFlag (one_of (codes "log") rows) log
 
 -- what is said of a plan for a subcommand
@@ -184,6 +208,36 @@ pub record IsPlanned (name : Text) (rows : List Row) (plan : Plan) : Type 0 wher
 abbrev pub IsPlannedFor : Option (Text × List Row) → Plan → Type 0
 IsPlannedFor None plan = ⊥
 IsPlannedFor (Some found) plan = IsPlanned found.0 found.1 plan
+
+-- no value has the property
+abbrev pub NoneIs : {T : Type 0} → (T → Type 0) → Type 0
+NoneIs {T} P = (x : T) → P x → ⊥
+
+-- no plan at all is one for what was found of a subcommand, by its name and its arguments
+abbrev pub HasNoPlan : Option (Text × List Row) → Type 0
+HasNoPlan found = NoneIs (IsPlannedFor found)
+
+-- the name is one of these
+abbrev pub IsOneOf : List Text → Text → Type 0
+IsOneOf [] name = ⊥
+IsOneOf (one ∷ others) name = (name ≡ one) ⊎ IsOneOf others name
+
+-- the subcommands that set what a run and a group are to each other, and those that report calls
+abbrev pub memberships : List Text
+memberships = codes "join" ∷ codes "leave" ∷ codes "baseline" ∷ []
+
+abbrev pub call_reports : List Text
+call_reports = codes "callers" ∷ codes "callees" ∷ []
+
+-- those that export, those that report or export, and all whose plan takes no memory and wants the database
+abbrev pub exports : List Text
+exports = codes "annotate" ∷ codes "csv" ∷ codes "folded" ∷ []
+
+abbrev pub reports : List Text
+reports = codes "by" ∷ codes "inclusive" ∷ codes "callers" ∷ codes "callees" ∷ codes "subtract" ∷ codes "verify" ∷ exports
+
+abbrev pub small_plans : List Text
+small_plans = codes "runs" ∷ codes "group" ∷ codes "groups" ∷ codes "join" ∷ codes "leave" ∷ codes "baseline" ∷ codes "serve" ∷ reports
 
 -- the plan for the words of a command line, in which its grammar finds no fault
 pub record IsPlanFor (words : List Text) (plan : Plan) : Type 0 where
@@ -228,12 +282,12 @@ IsEndBy error (Clap kept) = (kept ≡ error) × (kind_of error ≢ OutOfMemory)
 
 -- by the kinds of faults that words have, and what is found of their subcommand: a fault of the grammar is one of them, and comes
 -- first; then a run and a group exclude each other, first those of the report and then those that are taken off; out of memory may
--- come at any time
+-- come at any time; a clap error for words without a fault comes only where no plan at all is one for them
 abbrev pub IsEndOf : Kinds → Option (Text × List Row) → PlanEnd → Type 0
 IsEndOf kinds found Memory = Unit {0}
 IsEndOf kinds found RunAndGroup = (kinds ≡ []) × AreBothNamed found
 IsEndOf kinds found LessRunAndLessGroup = (kinds ≡ []) × (AreBothNamed found → ⊥) × AreBothLessNamed found
-IsEndOf kinds found (Clap error) = (kinds ≢ [] → IsAmong (kind_of error) kinds) × (kinds ≡ [] → AreApart found)
+IsEndOf kinds found (Clap error) = (kinds ≢ [] → IsAmong (kind_of error) kinds) × (kinds ≡ [] → AreApart found × HasNoPlan found)
 
 -- why there is no plan for the words of a command line
 abbrev pub IsEndFor : List Text → PlanEnd → Type 0

@@ -1,10 +1,10 @@
 // From the words of a command line to a plan.
-ghost use Rattle.std.specs.Prelude.{◌≡◌, false, codes, map, string_bytes, IfOk, IfErr, IfSome};
+ghost use Rattle.std.specs.Prelude.{◌≡◌, ◌≢◌, false, codes, map, string_bytes, IfNone, IfOk, IfErr, IfSome, Some};
 ghost use Rattle.clap.specs.Words.{app_of, found_of, rows_of, subcommand_rows_of};
 ghost use Rattle.clap.specs.declared.builder.command.Command.TheViews.{out-Command as fields_of};
 ghost use Rattle.command_line.specs.Grammar.{IsCommandLine};
-ghost use Rattle.command_line.specs.Plans.{HasWord, HasRun, IsRunNumber, IsPlanned, IsPlannedFor, IsPlanFor};
-ghost use Rattle.command_line.specs.Plans.{AreApart, IsEndFound, IsEndFor};
+ghost use Rattle.command_line.specs.Plans.{HasMember, HasNoPlan, HasWord, HasRun, IsOneOf, IsRunNumber, IsPlanned, IsPlannedFor, IsPlanFor, NoneIs};
+ghost use Rattle.command_line.specs.Plans.{AreApart, IsEndFound, IsEndFor, call_reports, exports, memberships, reports, small_plans};
 
 use crate::grammar::grammar;
 use crate::plans::{Plan, PlanEnd};
@@ -24,7 +24,8 @@ fn import<'a>(
     words: &ArgMatches<'a>,
 ) -> Result<Option<Plan<'a>>, AllocError>
     requires { HasWord (rows_of (found_of words.now)) (codes "db") db.now }
-    ensures { IfOk result (λ found. IfSome found (IsPlanned (codes "import") (rows_of (found_of words.now)))) }
+    ensures planned { IfOk result (λ found. IfSome found (IsPlanned (codes "import") (rows_of (found_of words.now)))) }
+    ensures none { IfOk result (λ found. IfNone found (HasNoPlan (Some (codes "import", rows_of (found_of words.now))))) }
 {
     let Some(files) = files(alloc, words)? else {
         return Ok(None);
@@ -44,7 +45,8 @@ fn remove<'a>(
     words: &ArgMatches<'a>,
 ) -> Result<Option<Plan<'a>>, AllocError>
     requires { HasWord (rows_of (found_of words.now)) (codes "db") db.now }
-    ensures { IfOk result (λ found. IfSome found (IsPlanned (codes "remove") (rows_of (found_of words.now)))) }
+    ensures planned { IfOk result (λ found. IfSome found (IsPlanned (codes "remove") (rows_of (found_of words.now)))) }
+    ensures none { IfOk result (λ found. IfNone found (HasNoPlan (Some (codes "remove", rows_of (found_of words.now))))) }
 {
     match runs(alloc, words)? {
         Some(numbers) => Ok(Some(Plan::Remove { db, numbers })),
@@ -55,7 +57,8 @@ fn remove<'a>(
 /// A group to be made or dropped.
 fn group<'a>(db: &'a str, words: &ArgMatches<'a>) -> Option<Plan<'a>>
     requires { HasWord (rows_of (found_of words.now)) (codes "db") db.now }
-    ensures { IfSome result (IsPlanned (codes "group") (rows_of (found_of words.now))) }
+    ensures planned { IfSome result (IsPlanned (codes "group") (rows_of (found_of words.now))) }
+    ensures none { IfNone result (HasNoPlan (Some (codes "group", rows_of (found_of words.now)))) }
 {
     let name = word(words, "NAME")?;
     let drop = is_given(words, "drop");
@@ -67,6 +70,7 @@ fn group_and_run<'a>(words: &ArgMatches<'a>) -> Option<(&'a str, u32)>
     ensures range { IfSome result (λ found. IsRunNumber found.1) }
     ensures name { IfSome result (λ found. HasWord (rows_of (found_of words.now)) (codes "NAME") found.0.now) }
     ensures number { IfSome result (λ found. HasRun (rows_of (found_of words.now)) found.1) }
+    ensures none { IfNone result (NoneIs (HasMember (rows_of (found_of words.now)))) }
 {
     let name = word(words, "NAME")?;
     let number = run(words)?;
@@ -76,7 +80,8 @@ fn group_and_run<'a>(words: &ArgMatches<'a>) -> Option<(&'a str, u32)>
 /// What a run and a group are to each other from now on.
 fn member<'a>(subcommand: &str, db: &'a str, words: &ArgMatches<'a>) -> Option<Plan<'a>>
     requires { HasWord (rows_of (found_of words.now)) (codes "db") db.now }
-    ensures { IfSome result (IsPlanned subcommand.now (rows_of (found_of words.now))) }
+    ensures planned { IfSome result (IsPlanned subcommand.now (rows_of (found_of words.now))) }
+    ensures none { IfNone result (IsOneOf memberships subcommand.now → HasNoPlan (Some (subcommand.now, rows_of (found_of words.now)))) }
 {
     let (name, number) = group_and_run(words)?;
     match subcommand {
@@ -90,7 +95,8 @@ fn member<'a>(subcommand: &str, db: &'a str, words: &ArgMatches<'a>) -> Option<P
 /// A report by a key.
 fn by<'a>(db: &'a str, words: &ArgMatches<'a>) -> Option<Plan<'a>>
     requires { HasWord (rows_of (found_of words.now)) (codes "db") db.now }
-    ensures { IfSome result (IsPlanned (codes "by") (rows_of (found_of words.now))) }
+    ensures planned { IfSome result (IsPlanned (codes "by") (rows_of (found_of words.now))) }
+    ensures none { IfNone result (HasNoPlan (Some (codes "by", rows_of (found_of words.now)))) }
 {
     Some(Plan::By {
         db,
@@ -105,7 +111,8 @@ fn by<'a>(db: &'a str, words: &ArgMatches<'a>) -> Option<Plan<'a>>
 /// A report of inclusive costs.
 fn inclusive<'a>(db: &'a str, words: &ArgMatches<'a>) -> Option<Plan<'a>>
     requires { HasWord (rows_of (found_of words.now)) (codes "db") db.now }
-    ensures { IfSome result (IsPlanned (codes "inclusive") (rows_of (found_of words.now))) }
+    ensures planned { IfSome result (IsPlanned (codes "inclusive") (rows_of (found_of words.now))) }
+    ensures none { IfNone result (HasNoPlan (Some (codes "inclusive", rows_of (found_of words.now)))) }
 {
     let selection = selection(words)?;
     let event = word(words, "event")?;
@@ -119,7 +126,8 @@ fn inclusive<'a>(db: &'a str, words: &ArgMatches<'a>) -> Option<Plan<'a>>
 /// A report of the calls that have one side at a function.
 fn calls<'a>(subcommand: &str, db: &'a str, words: &ArgMatches<'a>) -> Option<Plan<'a>>
     requires { HasWord (rows_of (found_of words.now)) (codes "db") db.now }
-    ensures { IfSome result (IsPlanned subcommand.now (rows_of (found_of words.now))) }
+    ensures planned { IfSome result (IsPlanned subcommand.now (rows_of (found_of words.now))) }
+    ensures none { IfNone result (IsOneOf call_reports subcommand.now → HasNoPlan (Some (subcommand.now, rows_of (found_of words.now)))) }
 {
     let selection = selection(words)?;
     let event = word(words, "event")?;
@@ -147,7 +155,8 @@ fn calls<'a>(subcommand: &str, db: &'a str, words: &ArgMatches<'a>) -> Option<Pl
 /// A report of differences by a key.
 fn subtract<'a>(db: &'a str, words: &ArgMatches<'a>) -> Option<Plan<'a>>
     requires { HasWord (rows_of (found_of words.now)) (codes "db") db.now }
-    ensures { IfSome result (IsPlanned (codes "subtract") (rows_of (found_of words.now))) }
+    ensures planned { IfSome result (IsPlanned (codes "subtract") (rows_of (found_of words.now))) }
+    ensures none { IfNone result (HasNoPlan (Some (codes "subtract", rows_of (found_of words.now)))) }
 {
     let selection = selection(words)?;
     let less = less(words)?;
@@ -165,7 +174,8 @@ fn subtract<'a>(db: &'a str, words: &ArgMatches<'a>) -> Option<Plan<'a>>
 /// A comparison with the totals that files state.
 fn verify<'a>(db: &'a str, words: &ArgMatches<'a>) -> Option<Plan<'a>>
     requires { HasWord (rows_of (found_of words.now)) (codes "db") db.now }
-    ensures { IfSome result (IsPlanned (codes "verify") (rows_of (found_of words.now))) }
+    ensures planned { IfSome result (IsPlanned (codes "verify") (rows_of (found_of words.now))) }
+    ensures none { IfNone result (HasNoPlan (Some (codes "verify", rows_of (found_of words.now)))) }
 {
     let selection = selection(words)?;
     Some(Plan::Verify { db, selection })
@@ -174,7 +184,8 @@ fn verify<'a>(db: &'a str, words: &ArgMatches<'a>) -> Option<Plan<'a>>
 /// A source that is annotated.
 fn annotate<'a>(db: &'a str, words: &ArgMatches<'a>) -> Option<Plan<'a>>
     requires { HasWord (rows_of (found_of words.now)) (codes "db") db.now }
-    ensures { IfSome result (IsPlanned (codes "annotate") (rows_of (found_of words.now))) }
+    ensures planned { IfSome result (IsPlanned (codes "annotate") (rows_of (found_of words.now))) }
+    ensures none { IfNone result (HasNoPlan (Some (codes "annotate", rows_of (found_of words.now)))) }
 {
     let selection = selection(words)?;
     let event = word(words, "event")?;
@@ -192,7 +203,8 @@ fn annotate<'a>(db: &'a str, words: &ArgMatches<'a>) -> Option<Plan<'a>>
 /// An export of self costs.
 fn csv<'a>(db: &'a str, words: &ArgMatches<'a>) -> Option<Plan<'a>>
     requires { HasWord (rows_of (found_of words.now)) (codes "db") db.now }
-    ensures { IfSome result (IsPlanned (codes "csv") (rows_of (found_of words.now))) }
+    ensures planned { IfSome result (IsPlanned (codes "csv") (rows_of (found_of words.now))) }
+    ensures none { IfNone result (HasNoPlan (Some (codes "csv", rows_of (found_of words.now)))) }
 {
     let selection = selection(words)?;
     Some(Plan::Csv { db, selection })
@@ -201,7 +213,8 @@ fn csv<'a>(db: &'a str, words: &ArgMatches<'a>) -> Option<Plan<'a>>
 /// An export of stacks.
 fn folded<'a>(db: &'a str, words: &ArgMatches<'a>) -> Option<Plan<'a>>
     requires { HasWord (rows_of (found_of words.now)) (codes "db") db.now }
-    ensures { IfSome result (IsPlanned (codes "folded") (rows_of (found_of words.now))) }
+    ensures planned { IfSome result (IsPlanned (codes "folded") (rows_of (found_of words.now))) }
+    ensures none { IfNone result (HasNoPlan (Some (codes "folded", rows_of (found_of words.now)))) }
 {
     let selection = selection(words)?;
     Some(Plan::Folded { db, selection })
@@ -210,7 +223,8 @@ fn folded<'a>(db: &'a str, words: &ArgMatches<'a>) -> Option<Plan<'a>>
 /// Requests that are answered.
 fn serve<'a>(db: &'a str, words: &ArgMatches<'a>) -> Option<Plan<'a>>
     requires { HasWord (rows_of (found_of words.now)) (codes "db") db.now }
-    ensures { IfSome result (IsPlanned (codes "serve") (rows_of (found_of words.now))) }
+    ensures planned { IfSome result (IsPlanned (codes "serve") (rows_of (found_of words.now))) }
+    ensures none { IfNone result (HasNoPlan (Some (codes "serve", rows_of (found_of words.now)))) }
 {
     let port = port(words)?;
     let requests = requests(words)?;
@@ -228,7 +242,8 @@ fn serve<'a>(db: &'a str, words: &ArgMatches<'a>) -> Option<Plan<'a>>
 /// The plan for an export.
 fn export<'a>(name: &str, db: &'a str, words: &ArgMatches<'a>) -> Option<Plan<'a>>
     requires { HasWord (rows_of (found_of words.now)) (codes "db") db.now }
-    ensures { IfSome result (IsPlanned name.now (rows_of (found_of words.now))) }
+    ensures planned { IfSome result (IsPlanned name.now (rows_of (found_of words.now))) }
+    ensures none { IfNone result (IsOneOf exports name.now → HasNoPlan (Some (name.now, rows_of (found_of words.now)))) }
 {
     match name {
         "annotate" => annotate(db, words),
@@ -241,7 +256,8 @@ fn export<'a>(name: &str, db: &'a str, words: &ArgMatches<'a>) -> Option<Plan<'a
 /// The plan for a report, or for an export.
 fn report<'a>(name: &str, db: &'a str, words: &ArgMatches<'a>) -> Option<Plan<'a>>
     requires { HasWord (rows_of (found_of words.now)) (codes "db") db.now }
-    ensures { IfSome result (IsPlanned name.now (rows_of (found_of words.now))) }
+    ensures planned { IfSome result (IsPlanned name.now (rows_of (found_of words.now))) }
+    ensures none { IfNone result (IsOneOf reports name.now → HasNoPlan (Some (name.now, rows_of (found_of words.now)))) }
 {
     match name {
         "by" => by(db, words),
@@ -256,7 +272,8 @@ fn report<'a>(name: &str, db: &'a str, words: &ArgMatches<'a>) -> Option<Plan<'a
 /// The plan for a subcommand that wants the database, and whose plan takes no memory.
 fn small_plan<'a>(name: &str, db: &'a str, words: &ArgMatches<'a>) -> Option<Plan<'a>>
     requires { HasWord (rows_of (found_of words.now)) (codes "db") db.now }
-    ensures { IfSome result (IsPlanned name.now (rows_of (found_of words.now))) }
+    ensures planned { IfSome result (IsPlanned name.now (rows_of (found_of words.now))) }
+    ensures none { IfNone result (IsOneOf small_plans name.now → HasNoPlan (Some (name.now, rows_of (found_of words.now)))) }
 {
     match name {
         "runs" => Some(Plan::Runs { db }),
@@ -274,7 +291,8 @@ fn over_database<'a>(
     name: &str,
     words: &ArgMatches<'a>,
 ) -> Result<Option<Plan<'a>>, AllocError>
-    ensures { IfOk result (λ found. IfSome found (IsPlanned name.now (rows_of (found_of words.now)))) }
+    ensures planned { IfOk result (λ found. IfSome found (IsPlanned name.now (rows_of (found_of words.now)))) }
+    ensures none { IfOk result (λ found. IfNone found ((name.now ≢ codes "total") → HasNoPlan (Some (name.now, rows_of (found_of words.now))))) }
 {
     let Some(db) = word(words, "db") else {
         return Ok(None);
@@ -292,7 +310,8 @@ fn plan_of<'a>(
     name: &str,
     words: &ArgMatches<'a>,
 ) -> Result<Option<Plan<'a>>, AllocError>
-    ensures { IfOk result (λ found. IfSome found (IsPlanned name.now (rows_of (found_of words.now)))) }
+    ensures planned { IfOk result (λ found. IfSome found (IsPlanned name.now (rows_of (found_of words.now)))) }
+    ensures none { IfOk result (λ found. IfNone found (HasNoPlan (Some (name.now, rows_of (found_of words.now))))) }
 {
     if name == "total" {
         return match word(words, "FILE") {
@@ -306,6 +325,7 @@ fn plan_of<'a>(
 /// The plan for what was found of the words, where that is of a subcommand.
 fn plan_found<'a>(alloc: Global, matches: &ArgMatches<'a>) -> Result<Option<Plan<'a>>, PlanEnd>
     ensures planned { IfOk result (λ found. IfSome found (IsPlannedFor (subcommand_rows_of matches.now))) }
+    ensures none { IfOk result (λ found. IfNone found (HasNoPlan (subcommand_rows_of matches.now))) }
     ensures apart { IfOk result (λ _. AreApart (subcommand_rows_of matches.now)) }
     ensures end { IfErr result (IsEndFound (subcommand_rows_of matches.now)) }
 {

@@ -1,8 +1,8 @@
 // What was found of the arguments of a subcommand.
-ghost use Rattle.std.specs.Prelude.{◌≡◌, ◌≢◌, ◌↔◌, ◌≤◌, true, [], All, map, codes, Some, None, IfOk, IfSome, IsSome};
+ghost use Rattle.std.specs.Prelude.{◌≡◌, ◌≢◌, ◌↔◌, ◌≤◌, true, [], All, map, codes, Some, None, IfNone, IfOk, IfSome, IsSome};
 ghost use Rattle.clap.specs.Words.{all_of, first_of, found_of, one_of, rows_of};
-ghost use Rattle.command_line.specs.Plans.{IsByteCount, IsRequestCount, IsRunNumber, IsSoundSelection, SaysRun, SaysUpTo, number_of, key_word};
-ghost use Rattle.command_line.specs.Plans.{HasWord, HasNumber, HasRun, HaveRuns, IsFlag, NamesBoth, SaysNumber};
+ghost use Rattle.command_line.specs.Plans.{IsByteCount, IsLimit, IsPort, IsRequestCount, IsRunNumber, IsSoundSelection, SaysRun, SaysUpTo, number_of, key_word};
+ghost use Rattle.command_line.specs.Plans.{HasWord, HasWords, HasNumber, HasRun, HasRuns, HaveRuns, IsFlag, NamesBoth, NoneIs, SaysNumber};
 ghost use Rattle.command_line.specs.Plans.{HasSelection, HasSelectionBy, HasLess};
 
 use crate::subcommands::{LAST_RUN, MAX_PERCENT, MOST_BYTES, MOST_REQUESTS};
@@ -31,6 +31,7 @@ pub fn is_given(words: &ArgMatches<'_>, id: &str) -> bool
 fn all_words<'m, 'a>(words: &'m ArgMatches<'a>, id: &str) -> Option<&'m [&'a str]>
     ensures some { IfSome result (λ texts. texts.now ≢ []) }
     ensures words { IfSome result (λ texts. all_of id.now (rows_of (found_of words.now)) ≡ Some (map (λ text. text.now) texts.now)) }
+    ensures none { IfNone result (NoneIs (HasWords (rows_of (found_of words.now)) id.now)) }
 {
     let texts = words.get_strs(id)?;
     if texts.is_empty() {
@@ -46,6 +47,7 @@ pub fn files<'a>(
 ) -> Result<Option<ListVec<&'a str>>, AllocError>
     ensures some { IfOk result (λ found. IfSome found (λ files. files ≢ [])) }
     ensures words { IfOk result (λ found. IfSome found (λ files. all_of (codes "FILE") (rows_of (found_of words.now)) ≡ Some (map (λ file. file.now) files))) }
+    ensures none { IfOk result (λ found. IfNone found (NoneIs (HasWords (rows_of (found_of words.now)) (codes "FILE")))) }
 {
     match all_words(words, "FILE") {
         Some(files) => Ok(Some(ListVec::from_vec(files.to_vec(alloc)?))),
@@ -76,6 +78,7 @@ fn run_of(text: &str) -> Option<u32>
 pub fn run(words: &ArgMatches<'_>) -> Option<u32>
     ensures range { IfSome result IsRunNumber }
     ensures number { IfSome result (HasRun (rows_of (found_of words.now))) }
+    ensures none { IfNone result (NoneIs (λ number. IsRunNumber number × HasRun (rows_of (found_of words.now)) number)) }
 {
     run_of(word(words, "N")?)
 }
@@ -84,6 +87,7 @@ pub fn run(words: &ArgMatches<'_>) -> Option<u32>
 fn runs_of(alloc: Global, texts: &[&str]) -> Result<Option<ListVec<u32>>, AllocError>
     ensures range { IfOk result (λ found. IfSome found (All IsRunNumber)) }
     ensures value { IfOk result (λ found. IfSome found (λ numbers. numbers ≡ map (λ text. number_of text.now) texts.now)) }
+    ensures all { IfOk result (λ found. IsSome found ↔ All (λ text. SaysRun text.now) texts.now) }
 {
     let mut numbers = Vec::new(alloc);
     for text in texts {
@@ -100,6 +104,7 @@ pub fn runs(alloc: Global, words: &ArgMatches<'_>) -> Result<Option<ListVec<u32>
     ensures some { IfOk result (λ found. IfSome found (λ numbers. numbers ≢ [])) }
     ensures range { IfOk result (λ found. IfSome found (All IsRunNumber)) }
     ensures numbers { IfOk result (λ found. IfSome found (HaveRuns (rows_of (found_of words.now)))) }
+    ensures none { IfOk result (λ found. IfNone found (NoneIs (HasRuns (rows_of (found_of words.now))))) }
 {
     match all_words(words, "N") {
         Some(texts) => runs_of(alloc, texts),
@@ -132,6 +137,7 @@ pub fn less_run_and_less_group(words: &ArgMatches<'_>) -> bool
 fn selection_by<'a>(words: &ArgMatches<'a>, run: &str, group: &str) -> Option<Selection<&'a [u8]>>
     ensures sound { IfSome result IsSoundSelection }
     ensures selection { IfSome result (HasSelectionBy run.now group.now (rows_of (found_of words.now))) }
+    ensures none { IfNone result (NoneIs (λ runs. IsSoundSelection runs × HasSelectionBy run.now group.now (rows_of (found_of words.now)) runs)) }
 {
     match (word(words, run), word(words, group)) {
         (None, None) => Some(Selection::All),
@@ -145,6 +151,7 @@ fn selection_by<'a>(words: &ArgMatches<'a>, run: &str, group: &str) -> Option<Se
 pub fn selection<'a>(words: &ArgMatches<'a>) -> Option<Selection<&'a [u8]>>
     ensures sound { IfSome result IsSoundSelection }
     ensures selection { IfSome result (HasSelection (rows_of (found_of words.now))) }
+    ensures none { IfNone result (NoneIs (λ runs. IsSoundSelection runs × HasSelection (rows_of (found_of words.now)) runs)) }
 {
     selection_by(words, "run", "group")
 }
@@ -153,6 +160,7 @@ pub fn selection<'a>(words: &ArgMatches<'a>) -> Option<Selection<&'a [u8]>>
 pub fn less<'a>(words: &ArgMatches<'a>) -> Option<Option<Selection<&'a [u8]>>>
     ensures sound { IfSome result (λ less. IfSome less IsSoundSelection) }
     ensures selection { IfSome result (HasLess (rows_of (found_of words.now))) }
+    ensures none { IfNone result (NoneIs (λ less. IfSome less IsSoundSelection × HasLess (rows_of (found_of words.now)) less)) }
 {
     match selection_by(words, "less-run", "less-group")? {
         Selection::All => Some(None),
@@ -163,7 +171,9 @@ pub fn less<'a>(words: &ArgMatches<'a>) -> Option<Option<Selection<&'a [u8]>>>
 
 /// The limit on rows, if there is one: no answer where its word is no number.
 pub fn limit(words: &ArgMatches<'_>) -> Option<Option<u32>>
-    ensures { IfSome result (HasNumber (rows_of (found_of words.now)) (codes "limit")) }
+    ensures range { IfSome result (λ limit. IfSome limit IsLimit) }
+    ensures number { IfSome result (HasNumber (rows_of (found_of words.now)) (codes "limit")) }
+    ensures none { IfNone result (NoneIs (λ limit. IfSome limit IsLimit × HasNumber (rows_of (found_of words.now)) (codes "limit") limit)) }
 {
     words.try_get_one::<u32>("limit").ok()
 }
@@ -172,6 +182,7 @@ pub fn limit(words: &ArgMatches<'_>) -> Option<Option<u32>>
 pub fn threshold(words: &ArgMatches<'_>) -> Option<u8>
     ensures range { IfSome result (λ percent. percent ≤ 100) }
     ensures number { IfSome result (λ percent. HasNumber (rows_of (found_of words.now)) (codes "threshold") (Some percent)) }
+    ensures none { IfNone result (NoneIs (λ percent. (percent ≤ 100) × HasNumber (rows_of (found_of words.now)) (codes "threshold") (Some percent))) }
 {
     match words.get_one::<u8>("threshold") {
         Some(percent) if percent <= MAX_PERCENT => Some(percent),
@@ -181,15 +192,18 @@ pub fn threshold(words: &ArgMatches<'_>) -> Option<u8>
 
 /// The port that was named.
 pub fn port(words: &ArgMatches<'_>) -> Option<u16>
-    ensures { IfSome result (SaysNumber (rows_of (found_of words.now)) (codes "port")) }
+    ensures range { IfSome result IsPort }
+    ensures number { IfSome result (λ port. HasNumber (rows_of (found_of words.now)) (codes "port") (Some port)) }
+    ensures none { IfNone result (NoneIs (λ port. IsPort port × HasNumber (rows_of (found_of words.now)) (codes "port") (Some port))) }
 {
-    word(words, "port")?.parse::<u16>().ok()
+    words.get_one::<u16>("port")
 }
 
 /// How many requests are answered.
 pub fn requests(words: &ArgMatches<'_>) -> Option<u32>
     ensures range { IfSome result IsRequestCount }
     ensures number { IfSome result (SaysNumber (rows_of (found_of words.now)) (codes "requests")) }
+    ensures none { IfNone result (NoneIs (λ count. IsRequestCount count × SaysNumber (rows_of (found_of words.now)) (codes "requests") count)) }
 {
     number_up_to(word(words, "requests")?, MOST_REQUESTS)
 }
@@ -198,13 +212,15 @@ pub fn requests(words: &ArgMatches<'_>) -> Option<u32>
 pub fn most_bytes(words: &ArgMatches<'_>) -> Option<u32>
     ensures range { IfSome result IsByteCount }
     ensures number { IfSome result (SaysNumber (rows_of (found_of words.now)) (codes "most-bytes")) }
+    ensures none { IfNone result (NoneIs (λ count. IsByteCount count × SaysNumber (rows_of (found_of words.now)) (codes "most-bytes") count)) }
 {
     number_up_to(word(words, "most-bytes")?, MOST_BYTES)
 }
 
 /// The key that was named.
 pub fn key(words: &ArgMatches<'_>) -> Option<Key>
-    ensures { IfSome result (λ key. HasWord (rows_of (found_of words.now)) (codes "KEY") (key_word key)) }
+    ensures some { IfSome result (λ key. HasWord (rows_of (found_of words.now)) (codes "KEY") (key_word key)) }
+    ensures none { IfNone result (NoneIs (λ key. HasWord (rows_of (found_of words.now)) (codes "KEY") (key_word key))) }
 {
     match word(words, "KEY")? {
         "object" => Some(Key::Object),

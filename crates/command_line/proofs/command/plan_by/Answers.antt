@@ -25,4 +25,8 @@ returns-in-Some-clause-plan c =
     plan_for (app_of c.args.grammar.now) matches (map string_bytes c.args.words.now) c.in-Some.plan c.requires.grammar c.in_ok-matches.ensures.ok.2 c.in_ok-matches.ensures.kinds given
 
 pub returns-clause-end : goal.returns-clause-end
-returns-clause-end c = no_plan (app_of c.args.grammar.now) c.in_ok-matches.matches (map string_bytes c.args.words.now) c.in_ok-error.error c.requires.grammar c.in_ok-matches.ensures.ok.2 c.in_ok-matches.ensures.kinds c.in_ok-plan.ensures.apart
+returns-clause-end c =
+    let matches = c.in_ok-matches.matches in
+    let nothing = rw c.in_default.is at c.in_ok-plan.ensures.none in
+    no_plan (app_of c.args.grammar.now) matches (map string_bytes c.args.words.now) c.in_ok-error.error c.requires.grammar c.in_ok-matches.ensures.ok.2 c.in_ok-matches.ensures.kinds
+    c.in_ok-plan.ensures.apart nothing
