@@ -22,7 +22,7 @@ changes_nothing (jobs.Run commands) = list_all only_reads commands.now
 changes_nothing (jobs.Serve service) = false
 
 module _ {F W S : Type 0} (remaining : F → Option (List ℕ)) (contents : W → Option (List ℕ)) (g : Ghosts S) where
-  -- the steps of a job: of commands, that they are those, in turn, as far as they were printed behind what stood there; of a server, that they are of its requests
+  -- what is said of the steps of a job: of commands, that they are those, in turn, and their lines printed behind what stood there, or where that failed the first of those and a front of their lines; of a server, that they are of its requests
   abbrev pub Tells : {E : Type 0} → Job → Option (List ℕ) → Result ℕ E → W → Limits → History → Type 0
   Tells (jobs.Run commands) start result out limits steps = (from : W) × (contents from ≡ start) × WerePrinted contents (Wants remaining commands.now) result from out steps
   Tells (jobs.Serve service) start result out limits steps = (old new : S) × AreOfRequests g service.requests old new limits steps

@@ -15,7 +15,7 @@ use Rattle.program_stores.specs.declared.jobs.Job.{Job}
 use Rattle.program_stores.specs.Jobs.{Tells}
 
 module _ {S : Type 0} (g : Ghosts S) where
-  -- under the standard limits steps were taken that are legal after a history, of which this holds; the store has the history with them, and a crash leaves rows of it
+  -- under the standard limits there are steps that are legal after a history, of which this is said; the store has the history with them, and a crash leaves rows of that, or of what may become of it
   pub record Extends (h : History) (Says : Limits → History → Type 0) (store : S) : Type 0 where
     pub limits : Limits
     pub standard : IsStandard limits
