@@ -1,4 +1,3 @@
-pub mod HeadColumns
 pub mod HeadLines
 pub mod HeldCalls
 pub mod HeldCells

@@ -10,14 +10,6 @@ use Rattle.held_lines.specs.declared.held_names.HeldName.{HeldName}
 abbrev pub name_row : HeldName → NameRow
 name_row n = record { number = n.number; name = n.bytes.items }
 
--- of a row of names its number and its bytes
-abbrev pub name_seen : Row → Row
-name_seen r = column r 0 ∷ column r 2 ∷ []
-
--- the columns that show them
-abbrev pub name_shown : NameRow → Row
-name_shown line = number line.number ∷ Blob line.name ∷ []
-
 -- the name at a place is this one, of this number
 abbrev pub IsNameAt : List HeldName → ℕ → ℕ → List ℕ → Type 0
 IsNameAt names at number name = (at < length names) × ((d : HeldName) → ((get_or names at d).number ≡ number) × (name ≡ (get_or names at d).bytes.items))

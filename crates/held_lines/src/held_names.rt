@@ -1,5 +1,5 @@
 // Names and their numbers.
-ghost use Rattle.std.specs.Prelude.{◌≡◌, ◌≢◌, ◌<◌, None, map, length, get_or, IfErr, IfOk, IfSome};
+ghost use Rattle.std.specs.Prelude.{◌≡◌, ◌≢◌, ◌<◌, ◌↔◌, None, map, length, get_or, IfErr, IfOk, IfSome, IsTrue};
 ghost use Rattle.std.specs.List.{AllAdjacentBelow};
 ghost use Rattle.sqlite_trees.specs.Tree.{IsAscending};
 ghost use Rattle.run_stores.specs.Book.{name_of, no_name, IsHeld};
@@ -7,9 +7,8 @@ ghost use Rattle.run_stores.specs.Names.{IsNumberOf};
 ghost use Rattle.held_lines.specs.NameRows.{name_row, IsNameAt};
 
 use run_stores::NameTable;
-use sqlite::Row;
 use std::marker::Model;
-use store_schema::{FromRow, OutOfForm, Rises, StoreError, bytes_at, number_at, rise};
+use store_schema::OutOfForm;
 
 /// A name and its number.
 #[derive(Drop)]
@@ -38,29 +37,16 @@ impl Model for HeldNames {
     ghost invariant = { λ h. IsAscending (λ a b. a.number < b.number) h.names.items };
 }
 
-impl FromRow for HeldName {
-    ghost use Rattle.held_lines.specs.HeadColumns.{first_two};
-    ghost use Rattle.held_lines.specs.NameRows.{name_row, name_shown};
-
-    ghost seen = { first_two };
-
-    ghost columns = { λ n. name_shown (name_row n) };
-
-    fn from_row(row: &Row) -> Result<HeldName, StoreError> {
-        let number = number_at(row, 0)?;
-        let bytes = bytes_at(row, 1)?;
-        Ok(HeldName { number, bytes })
+/// Whether the numbers of names rise, one after another.
+fn rise(names: &[HeldName]) -> bool
+    ensures { IsTrue result ↔ AllAdjacentBelow (λ a b. a.number < b.number) names.now (length names.now) }
+{
+    for k in 1..names.len() {
+        if names[k - 1].number >= names[k].number {
+            return false;
+        }
     }
-}
-
-impl Rises for HeldName {
-    ghost use Rattle.std.specs.Prelude.{◌<◌};
-
-    ghost Below = { λ a b. a.number < b.number };
-
-    fn is_below(&self, other: &HeldName) -> bool {
-        self.number < other.number
-    }
+    true
 }
 
 /// The name at a place, if it has the number.

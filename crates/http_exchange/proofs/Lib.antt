@@ -4,4 +4,3 @@ pub mod HeadLemmas
 pub mod Steps
 mod StreamExamples
 pub mod TextsLemmas
-pub mod PhraseLemmas

@@ -32,9 +32,6 @@ written_join (Broke ∷ first) second = written_join first second
 pub written_on : (writes : List Written) (piece : List ℕ) → bytes_written (writes ++ Took piece ∷ []) ≡ bytes_written writes ++ piece
 written_on writes piece = written_join writes (Took piece ∷ []) ∙ ap (λ l. bytes_written writes ++ l) (append-nil piece)
 
-pub written_broke : (writes : List Written) → bytes_written (writes ++ Broke ∷ []) ≡ bytes_written writes
-written_broke writes = written_join writes (Broke ∷ []) ∙ append-nil (bytes_written writes)
-
 -- a piece that is not empty
 pub has_taken : (piece : List ℕ) → 0 < length piece → HaveTaken (Took piece ∷ [])
 has_taken [] some = absurd (omega (arith, some))

@@ -93,12 +93,6 @@ module _ {D : Type 0} {g : Ghosts D} where
     pub part : IsFaithful file → (wanted : List Wanted) (roots : List ℕ) (was now : Trees) (indexes : List Index) (olds : List Row) → Writes wanted roots was now old
         → AreIndexPlaces wanted roots places indexes → CanBeFilled now indexes olds news → IsPart wanted roots was now places indexes news k file
 
-  pub none_filled : (file : PageFile D g) (places : List IndexPlace) (news : List Row) → Keeps (state file.pool) (state file.pool) → HasFilledSome file file places news 0
-  none_filled file places news k = record {
-    keeps = k;
-    usable = λ ready. ready;
-    part = λ faithful wanted roots was now indexes olds w all can.
-        record { done = []; left = indexes; split = refl; places_left = all; has = record { next = now; writes = w; spared = λ tree none. refl; filled = tt } };
   }
 
   module _ (wanted : List Wanted) (roots : List ℕ) (was now : Trees) (places : List IndexPlace) (indexes : List Index) (news : List Row) (k : ℕ) (file : PageFile D g)

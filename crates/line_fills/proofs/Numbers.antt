@@ -24,10 +24,6 @@ numbered-more first lines at low =
     ap (numbered first) (take_more lines at [] low) ∙ numbered-append first (take at lines) (get_or lines at [] ∷ [])
     ∙ ap (λ n. numbered first (take at lines) ++ (Int (pos (first + n)) ∷ get_or lines at []) ∷ []) (length-take-le at lines (omega (arith, low)))
 
-pub length-numbered : (first : ℕ) (lines : List Row) → length (numbered first lines) ≡ length lines
-length-numbered first [] = refl
-length-numbered first (x ∷ lines) = ap suc (length-numbered (suc first) lines)
-
 -- each at its place
 pub numbered_at_places : (first : ℕ) (lines : List Row) → map (row_at first lines) (range_with_len 0 (length lines)) ≡ numbered first lines
 numbered_at_places first lines = let same : first + 0 ≡ first = omega arith in from [] lines ∙ ap (λ n. numbered n lines) same

@@ -15,10 +15,6 @@ pub at_err : {T E : Type 0} (r : Result T E) (P : Type 0) (F : E → Type 0) (e 
 at_err (Ok x) P F e is m = absurd cc
 at_err (Err d) P F e is m = let same : d ≡ e = cc in subst F same m
 
-pub on_ok : {T E : Type 0} (r : Result T E) {P Q : Type 0} → (P → Q) → OnOk r P → OnOk r Q
-on_ok (Ok x) so p = so p
-on_ok (Err e) so p = tt
-
 -- what holds anyway
 pub given_ok : {T E : Type 0} (r : Result T E) {P : Type 0} → P → OnOk r P
 given_ok (Ok x) p = p

@@ -78,10 +78,6 @@ more_rows {tree} {old} {mid} {new} {header} {first} {next} a same b =
       };
     }
 
-pub no_rows : {tree : Tree} {old new : List ℕ} {header : ℕ} → new ≡ old → IsPage (leaf_of tree) old header → TakesRows tree old new header []
-no_rows {tree} {old} {new} {header} same sound =
-    record { sound = subst (λ b. IsPage (leaf_of tree) b header) (sym same) sound; more = []; cells = ap (λ b. page_cells (leaf_of tree) b header) same ∙ sym (append-nil _); hold = record { says = λ spill. refl; chained = λ layout. tt } }
-
 -- one more of the new rows
 pub one_more : (tree : Tree) (rows : List NewRow) (i : ℕ) → i < length rows → entries_of tree (take (i + 1) rows) ≡ entries_of tree (take i rows) ++ entry_from tree (row_at rows i) ∷ []
 one_more tree rows i within = ap (entries_of tree) (take_more rows i (0, []) within) ∙ map-append (entry_from tree) (take i rows) (row_at rows i ∷ [])

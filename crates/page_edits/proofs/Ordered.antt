@@ -27,7 +27,3 @@ module _ (place : Place) (Below : Row → Row → Type 0) (none : (new : Row) �
 -- the rows of a table
 pub table_above : (rows news : List Row) → IsTable (rows ++ news) → place_all put_row news rows ≡ rows ++ news
 table_above = all_above put_row (λ a b. value_cmp (rowid a) (rowid b) ≡ Less) (λ new. refl) (λ row new rows e. rw e refl)
-
--- the entries of an index
-pub index_above : (order : Keys) (entries news : List Row) → IsIndex order (entries ++ news) → place_all (insert_entry order) news entries ≡ entries ++ news
-index_above order = all_above (insert_entry order) (λ a b. entry_cmp order a b ≡ Less) (λ new. refl) (λ row new rows e. rw e refl)

@@ -40,10 +40,6 @@ module _ {D : Type 0} {g : Ghosts D} where
   fails_later a b c e k =
       longer (faults a) (faults b) (faults c) (faults c) (ComesToLimit b) (ComesToLimit a) e k.stays.faults (omega arith) (λ limit. (limit.0, Keeps-trans _ _ _ k limit.1, limit.2))
 
-  -- something is called after it failed
-  pub fails_before : (a b c : PageFile D g) (e : Error) → faults b ≤ faults c → FailsToWrite a b e → FailsToWrite a c e
-  fails_before a b c e more = longer (faults a) (faults a) (faults b) (faults c) (ComesToLimit a) (ComesToLimit a) e (omega arith) more (λ limit. limit)
-
   -- a call below fails, in which the file was at a limit
   pub fails_within : (old new : PageFile D g) (Limit : Type 0) (e : Error) → Keeps (state old.pool) (state new.pool) → IsTrue (state old.pool).is_open → IsFaithful new
       → (Limit → ComesToLimit old) → HasCause (faults old) (pools.ending new.pool) Limit e → FailsToWrite old new e

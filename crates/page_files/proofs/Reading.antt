@@ -61,9 +61,6 @@ module _ {D : Type 0} {g : Ghosts D} where
     pub trees_after : (wanted : List Wanted) → trees_of wanted new ≡ trees_of wanted old
     trees_after wanted = same_trees old new sized reads.pages wanted
 
-    pub table_after : {wanted : List Wanted} {t root : ℕ} → ShowsTable wanted t root old → ShowsTable wanted t root new
-    table_after is = same_table old new sized reads.pages is
-
     pub index_after : {wanted : List Wanted} {t root : ℕ} {order : Order} → ShowsIndex wanted t order root old → ShowsIndex wanted t order root new
     index_after is = same_index old new sized reads.pages is
 

@@ -186,15 +186,3 @@ module _ {D : Type 0} {g : Ghosts D} where
         | inl was ↦ inl (was.0, was.1, λ stored found. along stored (was.2 stored found))
         | inr made ↦ inr (made.0, carried (page_size old) middle image along made.0 made.1, made.2)
       ]
-
-  -- what a crash leaves of a transaction whose trees are known
-  pub left_of_commit : (old new : PageFile D g) {wanted : List Wanted} {roots : List ℕ} {was now : Trees} → page_size new ≡ page_size old → Writes wanted roots was now old → CommitsAtMost old new
-      → LeavesOnly (state new.pool) (λ pages. Has (page_size old) wanted was pages ⊎ Has (page_size old) wanted now pages)
-  left_of_commit old new {wanted} {roots} {was} {now} sized w c image may =
-      let size = page_size old in
-      elim (c image may) [
-        | inl kept ↦
-            let found = w.below.behind.left kept.0 kept.1 in
-            (found.0, subst (λ n. Recovers n image found.0) (sym sized) (carried size kept.0 image kept.2 found.0 found.1), inl found.2)
-        | inr made ↦ (made.0, subst (λ n. Recovers n image made.0) (sym sized) made.1, inr (made.2 wanted roots was now w))
-      ]

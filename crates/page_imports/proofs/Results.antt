@@ -1,10 +1,6 @@
 -- A fact of what succeeds or fails, from others.
 use Rattle.std.proofs.Common.{◌≡◌, Result, Ok, Err, MatchResult, IfErr, OnOk, refl, subst}
 
-pub on_ok : {T E : Type 0} (r : Result T E) {P Q : Type 0} → (P → Q) → OnOk r P → OnOk r Q
-on_ok (Ok x) so p = so p
-on_ok (Err e) so p = tt
-
 -- one that holds at any rate
 pub on_any : {T E : Type 0} (r : Result T E) {P : Type 0} → P → OnOk r P
 on_any (Ok x) p = p

@@ -12,12 +12,6 @@ use Rattle.page_lists.specs.declared.texts.Found.TheVariants.{Ours, OursWithMore
 
 -- ---- one entry
 
--- its text makes a table alike
-pub made_alike : {E : Type 0} (r : Result Bool E) (at : ℕ) (entry : Row) (text ours : List ℕ) → column entry 5 ≡ Text text → ours ≡ our_text at
-    → IfOk r (λ are. IsTrue are → MakeAlike text ours) → IfOk r (λ is. IsTrue is → IsMadeAs at entry)
-made_alike (Ok are) at entry text ours has same alike = λ is. (text, has, inr (subst (MakeAlike text) same (alike is)))
-made_alike (Err e) at entry text ours has same alike = tt
-
 -- ---- those that were taken, and one more
 
 all_more : {X : Type 0} (P : X → Type 0) (xs : List X) (x : X) → AllByRecursion P xs → P x → AllByRecursion P (xs ++ x ∷ [])
@@ -71,16 +65,6 @@ is_set true told = refl
 is_set false told = absurd (cc)
 
 -- ---- all of them
-
-uncapped : (n m ours : ℕ) → 11 < m → ours ≡ 11 → ours ≡ min n m → n ≡ 11
-uncapped n m ours low eleven is = omega arith
-
--- eleven were counted
-pub all_ours : (entries : List Row) (ours : ℕ) (has_more : Bool) → ours ≡ 11 → AreCounted entries ours has_more → AreOurs entries
-all_ours entries ours has_more eleven is = record { each = is.each; count = uncapped (count_of_ours entries) (2 ^ 64 - 1) ours (omega arith) eleven is.count }
-
-pub all_alone : (entries : List Row) (ours : ℕ) (has_more : Bool) → has_more ≡ false → AreCounted entries ours has_more → AreAlone entries
-all_alone entries ours has_more none is = sym is.more ∙ none
 
 -- a store is opened where they are ours
 pub opened : (entries : List Row) (found : Found) (is_alone : Bool) → Ok is_alone ≡ alone_in found → IsFoundOf entries found → AreOpened entries is_alone

@@ -19,10 +19,6 @@ all_at : {X : Type 0} (P : X → Type 0) (xs : List X) (y : X) (ys : List X) →
 all_at P [] y ys all = all.0
 all_at P (x ∷ xs) y ys all = all_at P xs y ys all.1
 
-all_behind : {X : Type 0} (P : X → Type 0) (xs ys : List X) → AllByRecursion P (xs ++ ys) → AllByRecursion P ys
-all_behind P [] ys all = all
-all_behind P (x ∷ xs) ys all = all_behind P xs ys all.1
-
 all_with : {X : Type 0} (P : X → Type 0) (xs : List X) (y : X) → AllByRecursion P xs → P y → AllByRecursion P (xs ++ y ∷ [])
 all_with P [] y all last = (last, tt)
 all_with P (x ∷ xs) y all last = (all.0, all_with P xs y all.1 last)
@@ -46,29 +42,7 @@ map_injective f one (x ∷ xs) (y ∷ ys) is =
 
 -- ---- the rows of a run, as they are taken
 
-map-append : {X Y : Type 0} (f : X → Y) (xs ys : List X) → map f (xs ++ ys) ≡ map f xs ++ map f ys
-map-append f [] ys = refl
-map-append f (x ∷ xs) ys = ap (λ l. f x ∷ l) (map-append f xs ys)
-
 module _ {L : Type 0} (columns : L → Row) (run : ℕ) where
-  -- a row of the run was taken
-  pub next_line : (rows : List Row) (lines : List L) (row : Row) (line : L) → AreOfRun columns run rows lines → run_in row ≡ run → columns line ≡ drop 1 row
-      → AreOfRun columns run (rows ++ row ∷ []) (lines ++ line ∷ [])
-  next_line rows lines row line are of is =
-      let e : is_of run row ≡ true = grind (arith, nat_tests, of) in
-      let one : filter (is_of run) (row ∷ []) ≡ row ∷ [] = rw e refl in
-      map-append columns lines (line ∷ []) ∙ ap₂ (λ a b. a ++ b ∷ []) are is
-      ∙ sym (ap (map (drop 1)) (filter-append (is_of run) rows (row ∷ []) ∙ ap (λ l. filter (is_of run) rows ++ l) one) ∙ map-append (drop 1) (filter (is_of run) rows) (row ∷ []))
-
-  -- or one of another run
-  pub other_line : (rows : List Row) (lines : List L) (row : Row) → AreOfRun columns run rows lines → is_of run row ≡ false → AreOfRun columns run (rows ++ row ∷ []) lines
-  other_line rows lines row are other =
-      let none : filter (is_of run) (row ∷ []) ≡ [] = rw other refl in
-      are ∙ sym (ap (map (drop 1)) (filter-append (is_of run) rows (row ∷ []) ∙ ap (λ l. filter (is_of run) rows ++ l) none ∙ append_nil _))
-    where
-      append_nil : {X : Type 0} (xs : List X) → xs ++ [] ≡ xs
-      append_nil [] = refl
-      append_nil (x ∷ xs) = ap (λ l. x ∷ l) (append_nil xs)
 
 -- ---- where they begin
 

@@ -16,27 +16,12 @@ use Rattle.page_places.specs.Unused.{cleared}
 use Rattle.page_places.proofs.Edits.{group_edited}
 use Rattle.page_places.proofs.OneLine.{one_of_name}
 
-none_is : (n : ℕ) (id : ℤ) (name : List ℕ) → is_at 2 (number n) (Int id ∷ Text name ∷ Null ∷ []) ≡ false
-unfolding binary
-none_is n id name = refl
-
--- a row's column tells whether the run is the group's baseline
-pub baseline_row : (n : ℕ) (id : ℤ) (g : GroupRow) → is_at 2 (number n) (Int id ∷ group_columns g) ≡ has_baseline n g
-baseline_row n id g = go g.baseline
-  where
-    go : (b : Option ℕ) → is_at 2 (number n) (Int id ∷ Text g.name ∷ number_or_null b ∷ []) ≡ is_baseline n b
-    go None = none_is n id g.name
-    go (Some m) = numbers_equal m n
-
 -- groups without the run as their baseline are as they were
 pub cleared_all : (n : ℕ) (groups : List GroupRow) → list_any (has_baseline n) groups ≡ false → map (cleared n) groups ≡ groups
 cleared_all n [] none = refl
 cleared_all n (g ∷ groups) none = let parts = or_parts (has_baseline n g) (list_any (has_baseline n) groups) none in ap₂ ◌∷◌ (ap (λ b. if b then unbased g else g) parts.0) (cleared_all n groups parts.1)
 
 module _ (t : Tables) (db next : Trees) (was : Holds t db) (n : ℕ) (id : ℤ) (g : GroupRow) (there : Has (db 19) (Int id ∷ group_columns g)) where
-  -- one group fewer has the run as its baseline
-  pub cleared_one : SparesBut (19 ∷ []) db next → next 19 ≡ put_row (Int id ∷ group_columns (unbased g)) (db 19) → Holds (record t { groups = map (λ x. if is_named g.name x then unbased x else x) t.groups }) next
-  cleared_one spared rows = group_edited t db next was unbased id g there spared rows refl (λ m is. absurd cc)
 
   -- with all others cleared too, it is as if it had been cleared among them
   pub still_to_clear : has_baseline n g ≡ true → map (cleared n) (map (λ x. if is_named g.name x then unbased x else x) t.groups) ≡ map (cleared n) t.groups

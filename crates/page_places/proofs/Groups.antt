@@ -144,32 +144,3 @@ module _ (t : Tables) (db next : Trees) (was : Holds t db) where
             go : (b : Option ℕ) → column row 2 ≡ number_or_null b → ((n : ℕ) → b ≡ Some n → has_run t n ≡ true) → has_parent schema_two.tables next row baseline_of ≡ true
             go None is held = or_left _ _ (ap (λ v. is_null v || false) is)
             go (Some n) is held = run_parent next t.runs (other_stays db next grp_at only 1 run_at refl refl ∙ runs_there t db was) n 2 baseline_of baseline_key refl (held n refl) row is
-
-    -- a group's baseline is set to a run that is held
-    pub baseline_set : (turn : Row → Row) (name : List ℕ) (n : ℕ) → next grp_at.tree ≡ map turn (db grp_at.tree)
-        → ((id : ℤ) (g : GroupRow) → Has (db grp_at.tree) (Int id ∷ group_columns g) → turn (Int id ∷ group_columns g) ≡ Int id ∷ group_columns (if is_named name g then rebased n g else g)) → has_run t n ≡ true → Holds (with_baseline name n t) next
-    baseline_set turn name n turned same held =
-        groups_replaced turn (λ g. if is_named name g then rebased n g else g) turned same (λ g there. named (is_named name g) g) (λ g m there. based (is_named name g) g m there)
-      where
-        named : (b : Bool) (g : GroupRow) → name_of (if b then rebased n g else g) ≡ g.name
-        named true g = refl
-        named false g = refl
-
-        based : (b : Bool) (g : GroupRow) (m : ℕ) → Has t.groups g → baseline_in (if b then rebased n g else g) ≡ Some m → has_run t m ≡ true
-        based true g m there is = let same_run : n ≡ m = cc in subst (λ k. has_run t k ≡ true) same_run held
-        based false g m there is = group_refers t db was g m there is
-
-    -- the baselines of a run are cleared
-    pub baselines_cleared : (turn : Row → Row) (n : ℕ) → next grp_at.tree ≡ map turn (db grp_at.tree)
-        → ((id : ℤ) (g : GroupRow) → Has (db grp_at.tree) (Int id ∷ group_columns g) → turn (Int id ∷ group_columns g) ≡ Int id ∷ group_columns (if has_baseline n g then unbased g else g))
-        → Holds (record t { groups = map (λ g. if has_baseline n g then unbased g else g) t.groups }) next
-    baselines_cleared turn n turned same =
-        groups_replaced turn (λ g. if has_baseline n g then unbased g else g) turned same (λ g there. named (has_baseline n g) g) (λ g m there. based (has_baseline n g) g m there)
-      where
-        named : (b : Bool) (g : GroupRow) → name_of (if b then unbased g else g) ≡ g.name
-        named true g = refl
-        named false g = refl
-
-        based : (b : Bool) (g : GroupRow) (m : ℕ) → Has t.groups g → baseline_in (if b then unbased g else g) ≡ Some m → has_run t m ≡ true
-        based true g m there is = absurd cc
-        based false g m there is = group_refers t db was g m there is

@@ -3,8 +3,6 @@ pub mod Changed
 pub mod Cleared
 pub mod Contents
 pub mod Distinct
-pub mod Drops
-pub mod Edits
 pub mod Entries
 pub mod Failing
 pub mod Filling
@@ -15,7 +13,6 @@ pub mod Keys
 pub mod Lines
 pub mod Members
 pub mod Numbered
-pub mod NumberedEdits
 pub mod OfRuns
 pub mod OneLine
 pub mod OneRow
@@ -31,4 +28,3 @@ pub mod Store
 pub mod Stores
 pub mod TakenOut
 pub mod Thinned
-pub mod Whole

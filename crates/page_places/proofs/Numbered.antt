@@ -91,15 +91,6 @@ module _ (t : Tables) (db next : Trees) (was : Holds t db) where
         below = was.below;
       }
 
-  pub name_behind : OnlyChanges schema_two db next name_at → IsShaped shape.Table (next name_at.tree) → (name : List ℕ) → next name_at.tree ≡ db name_at.tree ++ name_columns (record { number = next_name t.names; name = name }) ∷ []
-      → has_name t name ≡ false → Holds (with_new_name name t) next
-  name_behind only shaped name behind none =
-      let line : NameRow = record { number = next_name t.names; name = name } in
-      names_behind only shaped (line ∷ []) behind (record {
-        apart = all_from (λ x. AllByRecursion (λ (y : NameRow). x.name ≢ y.name) (line ∷ [])) t.names (λ x there. (λ same. both_ways _ none (some_from (λ (y : NameRow). bytes_eq y.name name) t.names x there ((bytes_eq-Decides x.name name).1 same)), tt));
-        among = (tt, tt);
-      })
-
   -- ---- the next run's number
 
   pub next_replaced : OnlyChanges schema_two db next meta_at → IsShaped shape.Table (next meta_at.tree) → (n : ℕ) → next meta_at.tree ≡ meta_columns n ∷ [] → AllByRecursion (λ (r : RunRow). r.number < n) t.runs → Holds (with_next n t) next

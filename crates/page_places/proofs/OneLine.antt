@@ -125,10 +125,3 @@ module _ (t : Tables) (db : Trees) (was : Holds t db) where
     baseline_put n id g there only shaped put held = group_put (rebased n) id g there only shaped put refl (λ m is. let same : n ≡ m = cc in subst (λ k. has_run t k ≡ true) same held)
 
 -- ---- a group goes once its members are gone
-
--- the members of a group are gone, and then the group
-pub without_group_from : (name : List ℕ) (t : Tables) (db next : Trees) → Holds (record t { members = filter (λ (m : MemberRow). not (bytes_eq m.group name)) t.members }) db → OnlyChanges schema_two db next grp_at
-    → IsShaped shape.Table (next grp_at.tree) → (keep : Row → Bool) → next grp_at.tree ≡ filter keep (db grp_at.tree)
-    → ((id : ℤ) (g : GroupRow) → Has (db grp_at.tree) (Int id ∷ group_columns g) → keep (Int id ∷ group_columns g) ≡ not (is_named name g)) → Holds (without_group name t) next
-without_group_from name t db next was only shaped keep left same =
-    group_taken_out (record t { members = filter (λ (m : MemberRow). not (bytes_eq m.group name)) t.members }) db next was only shaped keep name left same (none_left (λ (m : MemberRow). bytes_eq m.group name) t.members)

@@ -51,10 +51,6 @@ module _ (rows : List Row) (shaped : IsShaped shape.Table rows) where
       go false e = refl
       go true e = absurd (both_ways _ alone (some_from (λ o. agree plain places o places r && differ (rowid o) (rowid r)) rows q has_q (and_from _ _ same e)))
 
--- a row above each goes behind the others
-pub put_behind : (columns : Row) (rows : List Row) → IsShaped shape.Table rows → put_row (Int (next_rowid rows) ∷ columns) rows ≡ rows ++ (Int (next_rowid rows) ∷ columns) ∷ []
-put_behind columns rows shaped = put_last (Int (next_rowid rows) ∷ columns) rows (below_next rows shaped.0 shaped.1)
-
 -- the row, or the one that is put over it
 abbrev pub put_over : ℤ → Row → Row → Row
 put_over id columns r = if has_rowid id r then Int id ∷ columns else r

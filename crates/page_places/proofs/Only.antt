@@ -46,20 +46,9 @@ only_from schema table trees old new own sound spared indexed = record {
   ]);
 }
 
--- one change of a table after another
-pub only_then : (schema : Schema) (table : Table) (old mid new : Trees) → OnlyChanges schema old mid table → OnlyChanges schema mid new table → OnlyChanges schema old new table
-only_then schema table old mid new one two = record {
-  list_stays = two.list_stays ∙ one.list_stays;
-  others = λ t listed other. two.others t listed other ∙ one.others t listed other;
-  indexed = two.indexed;
 }
 
 module _ (db next : Trees) (sound : IsSound schema_two db) where
-  pub only_meta : SparesBut (0 ∷ []) db next → OnlyChanges schema_two db next meta_at
-  only_meta spared = only_from schema_two meta_at (0 ∷ []) db next (record { list = refl; tables = refl; indexes = refl }) sound spared (tt, (tt, (tt, (tt, (tt, (tt, (tt, (tt, (tt, (tt, (tt, (tt, tt))))))))))))
-
-  pub only_run : SparesBut (1 ∷ 2 ∷ []) db next → IsIndexOf (3 ∷ []) (next 1) (next 2) → OnlyChanges schema_two db next run_at
-  only_run spared one = only_from schema_two run_at (1 ∷ 2 ∷ []) db next (record { list = refl; tables = refl; indexes = refl }) sound spared (one, (tt, (tt, (tt, (tt, (tt, (tt, (tt, (tt, (tt, (tt, (tt, tt))))))))))))
 
   pub only_events : SparesBut (3 ∷ 4 ∷ 5 ∷ []) db next → IsIndexOf (1 ∷ 2 ∷ []) (next 3) (next 4) → IsIndexOf (1 ∷ 3 ∷ []) (next 3) (next 5) → OnlyChanges schema_two db next run_event_at
   only_events spared first second = only_from schema_two run_event_at (3 ∷ 4 ∷ 5 ∷ []) db next (record { list = refl; tables = refl; indexes = refl }) sound spared (tt, (first, (second, (tt, (tt, (tt, (tt, (tt, (tt, (tt, (tt, (tt, tt))))))))))))
@@ -78,12 +67,6 @@ module _ (db next : Trees) (sound : IsSound schema_two db) where
 
   pub only_stacks : SparesBut (17 ∷ 18 ∷ []) db next → IsIndexOf (1 ∷ 2 ∷ []) (next 17) (next 18) → OnlyChanges schema_two db next stack_at
   only_stacks spared one = only_from schema_two stack_at (17 ∷ 18 ∷ []) db next (record { list = refl; tables = refl; indexes = refl }) sound spared (tt, (tt, (tt, (tt, (tt, (tt, (tt, (tt, (one, (tt, (tt, (tt, tt))))))))))))
-
-  pub only_groups : SparesBut (19 ∷ 20 ∷ []) db next → IsIndexOf (1 ∷ []) (next 19) (next 20) → OnlyChanges schema_two db next grp_at
-  only_groups spared one = only_from schema_two grp_at (19 ∷ 20 ∷ []) db next (record { list = refl; tables = refl; indexes = refl }) sound spared (tt, (tt, (tt, (tt, (tt, (tt, (tt, (tt, (tt, (one, (tt, (tt, tt))))))))))))
-
-  pub only_members : SparesBut (21 ∷ 22 ∷ []) db next → IsIndexOf (1 ∷ 2 ∷ []) (next 21) (next 22) → OnlyChanges schema_two db next member_at
-  only_members spared one = only_from schema_two member_at (21 ∷ 22 ∷ []) db next (record { list = refl; tables = refl; indexes = refl }) sound spared (tt, (tt, (tt, (tt, (tt, (tt, (tt, (tt, (tt, (tt, (one, (tt, tt))))))))))))
 
   pub only_cells : SparesBut (23 ∷ 24 ∷ []) db next → IsIndexOf (1 ∷ 5 ∷ 6 ∷ 4 ∷ 3 ∷ 2 ∷ 7 ∷ []) (next 23) (next 24) → OnlyChanges schema_two db next thread_cell_at
   only_cells spared one = only_from schema_two thread_cell_at (23 ∷ 24 ∷ []) db next (record { list = refl; tables = refl; indexes = refl }) sound spared (tt, (tt, (tt, (tt, (tt, (tt, (tt, (tt, (tt, (tt, (tt, (one, tt))))))))))))

@@ -179,9 +179,3 @@ names_with one two =
 
 pub index_names_are : names_with (codes "1") (codes "2") ≡ map index_name schema_two.indexes
 index_names_are = sym (ap₂ names_with first_is second_is)
-
-pub group_key_name : codes "sqlite_autoindex_grp_" ++ decimal 1 ≡ codes "sqlite_autoindex_grp_1"
-group_key_name = ap (λ number. codes "sqlite_autoindex_grp_" ++ number) first_is
-
-pub member_key_name : codes "sqlite_autoindex_member_" ++ decimal 1 ≡ codes "sqlite_autoindex_member_1"
-member_key_name = ap (λ number. codes "sqlite_autoindex_member_" ++ number) first_is

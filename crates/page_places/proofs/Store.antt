@@ -96,24 +96,6 @@ module _ (t : Tables) (db : Trees) (was : Holds t db) where
   pub members_there : IsContent member_at (map member_columns t.members) (db 21)
   members_there = content_there schema_two.tables (contents_of t) db 9 member_at refl was.contain.contents_are
 
-  pub events_there : IsContent run_event_at (map event_columns t.events) (db 3)
-  events_there = content_there schema_two.tables (contents_of t) db 2 run_event_at refl was.contain.contents_are
-
-  pub derived_there : IsContent derived_at (map derived_columns t.derived) (db 6)
-  derived_there = content_there schema_two.tables (contents_of t) db 3 derived_at refl was.contain.contents_are
-
-  pub coefs_there : IsContent coef_at (map coef_columns t.coefs) (db 9)
-  coefs_there = content_there schema_two.tables (contents_of t) db 4 coef_at refl was.contain.contents_are
-
-  pub cells_there : IsContent thread_cell_at (map cell_columns t.cells) (db 23)
-  cells_there = content_there schema_two.tables (contents_of t) db 10 thread_cell_at refl was.contain.contents_are
-
-  pub calls_there : IsContent arc_at (map arc_columns t.calls) (db 15)
-  calls_there = content_there schema_two.tables (contents_of t) db 6 arc_at refl was.contain.contents_are
-
-  pub stacks_there : IsContent stack_at (map stack_columns t.stacks) (db 17)
-  stacks_there = content_there schema_two.tables (contents_of t) db 7 stack_at refl was.contain.contents_are
-
   pub groups_lined : Lined grp_at group_columns (db 19) t.groups
   groups_lined = lined_content grp_at group_columns (db 19) t.groups groups_there
 

@@ -10,5 +10,4 @@ pub mod Places
 pub mod Roots
 pub mod Stores
 pub mod TableChanges
-pub mod Thinned
 pub mod Unused

@@ -38,8 +38,6 @@ pub record IsAmid {A S : Type 0} (Has : A → List Row → S → Type 0) (layout
       → IsBehind Has start (shown_of (left_in pages batch) ++ rest) sink all
 
 module _ {A S : Type 0} (Has Ends : A → List Row → S → Type 0) (layout : Layout) (size : ℕ) (pages : PageMap) where
-  pub amid_first : (batch : Batch) (sink : S) → IsBatchOf layout size batch → IsAmid Has layout size pages batch batch sink sink
-  amid_first batch sink valid = record { valid = valid; leaves = ([], refl, inl refl); behind = λ start rest all is. is }
 
   module _ (first old new : Batch) (begun sink : S) (amid : IsAmid Has layout size pages first old begun sink) where
     -- none is left

@@ -28,12 +28,6 @@ same_side order (v ∷ entry) [] = refl
 same_side order (v ∷ entry) (k ∷ key) =
     by_order _ (by_key (first_key order) v k) (λ e. rw e) (λ e. rw e (same_side (later order) entry key)) (λ e. rw e)
 
--- the kit's word for it
-pub from_entry_is_key : (order : Order) (key : Row) (entries : List Row) → from_entry order key entries ≡ from_key order key entries
-from_entry_is_key order key [] = refl
-from_entry_is_key order key (entry ∷ entries) = elim (cases_Bool (is_lt (prefix_cmp order entry key)))
-    [ inl low ↦ rw (same_side order entry key, low) (from_entry_is_key order key entries) | inr high ↦ rw (same_side order entry key, high) ]
-
 below_begins_not : (o : Ordering) → is_lt o ≡ true → is_eq o ≡ false
 below_begins_not Less low = refl
 below_begins_not Equal low = absurd (true≢false (sym low))
@@ -87,28 +81,8 @@ module _ (order : Order) (key : Row) where
   pub none_begins : (entries : List Row) → IsIndex order entries → from_entry order key entries ≡ [] → filter (begins_with order key) entries ≡ []
   none_begins entries up none = those_that_begin entries up ∙ ap (take_while (begins_with order key)) none
 
-is_tied : (o : Ordering) → is_eq o ≡ true → o ≡ Equal
-is_tied Less tie = absurd (true≢false (sym tie))
-is_tied Equal tie = refl
-is_tied Greater tie = absurd (true≢false (sym tie))
-
 -- an entry begins with its own first column
 pub begins_itself : (order : Order) (value : Value) (rest : Row) → begins_with order (value ∷ []) (value ∷ rest) ≡ true
 begins_itself order value rest = ap is_eq (then-Equal _ ∙ tied_itself (by_key_total (first_key order)) value)
 
--- one whose first column is an integer begins with that integer alone
-pub begins_with_integer : (order : Order) (m n : ℤ) (rest : Row) → begins_with order (Int n ∷ []) (Int m ∷ rest) ≡ true → m ≡ n
-begins_with_integer order m n rest begins =
-    let tie = tied_no_text (first_key order) (Int m) (Int n) (λ e. omega arith) (sym (then-Equal _) ∙ is_tied _ begins) in
-    let same : int_cmp m n ≡ Equal = sym (value_cmp-Int m n) ∙ tie in grind (arith, ints)
-
--- where no entry begins with a value, none has it as its first column
-pub none_has : (order : Order) (value : Value) (entries : List Row) → filter (begins_with order (value ∷ [])) entries ≡ [] → AllByRecursion (λ e. (rest : Row) → ¬ (e ≡ value ∷ rest)) entries
-none_has order value [] none = tt
-none_has order value (e ∷ es) none = elim (cases_Bool (begins_with order (value ∷ []) e)) [
-  | inl begins ↦ absurd (let n = rw begins at none in cc)
-  | inr other ↦ (
-    (λ rest is. true≢false (sym (ap (begins_with order (value ∷ [])) is ∙ begins_itself order value rest) ∙ other)),
-    none_has order value es (rw other at none),
-  )
 ]

@@ -8,15 +8,7 @@ use Rattle.std.specs.BTreeMap.{BTreeMap, IsOrdered, Updates, get, insert_entry, 
 use Rattle.std.specs.Map.{lookup, values_of}
 use Rattle.std.specs.Ordering.{nat_cmp}
 
-same_key : (key q : ℕ) → is_at (nat_cmp key) q ≡ true → key ≡ q
-same_key key q here = grind (arith, nat_tests, here)
-
 module _ {V : Type 0} (old new : BTreeMap ℕ V) (key : ℕ) (value : V) where
-  pub each_with : (P : ℕ → V → Type 0) → Updates nat_cmp old new key (Some value) → ((q : ℕ) → IfSome (get nat_cmp old q) (P q)) → P key value → (q : ℕ) → IfSome (get nat_cmp new q) (P q)
-  each_with P updates was is q = elim (cases_Bool (is_at (nat_cmp key) q)) [
-    | inl here ↦ (let same = same_key key q here in
-        subst (λ o. IfSome o (P q)) (sym (subst (λ k. get nat_cmp new k ≡ Some value) same updates.1)) (subst (λ k. P k value) same is))
-    | inr other ↦ subst (λ o. IfSome o (P q)) (sym (updates.2 q other)) (was q)
   ]
 
   pub sum_with : (f : V → ℕ) → new.entries ≡ insert_entry nat_cmp old.entries key value → IsOrdered nat_cmp old → sum_by f (values new) ≤ sum_by f (values old) + f value

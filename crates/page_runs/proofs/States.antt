@@ -137,17 +137,3 @@ module _ {D : Type 0} {g : Ghosts D} where
   -- and may be answered where the store can be used
   pub asked_usable : (store : PageRuns D g) → IsUsable store.file → (answered : Bool) → (IsFaithful store → Asked state_of answered store store)
   asked_usable store usable answered = asked_nothing answered store (λ _. usable)
-
-  pub asked_refused : (store : PageRuns D g) → (IsFaithful store → Asked state_of false store store)
-  asked_refused store = asked_nothing false store (λ (none : false ≡ true). absurd cc)
-
-  -- a change that is refused
-  pub refused : {M : Type 0} (Before After : M → Tables → Type 0) (store : PageRuns D g) → (IsFaithful store → Changed state_of Before After false false store store)
-  refused Before After store faithful =
-      let nothing = asked_nothing false store (λ (none : false ≡ true). absurd cc) faithful in
-      record {
-        stays = nothing.stays;
-        done = λ absurdly m rests. absurd (let e : false ≡ true = absurdly in cc);
-        kept = λ same. nothing.kept;
-        crash = λ m rests left may. inl may;
-      }

@@ -20,20 +20,11 @@ module _ {X : Type 0} where
   all_has P (y ∷ ys) x all (inl same) = subst P (sym same) all.0
   all_has P (y ∷ ys) x all (inr later) = all_has P ys x all.1 later
 
-  pub all_from : (P : X → Type 0) (xs : List X) → ((x : X) → Has xs x → P x) → AllByRecursion P xs
-  all_from P [] each = tt
-  all_from P (y ∷ ys) each = (each y (inl refl), all_from P ys (λ x later. each x (inr later)))
-
   -- ---- of one of them
 
   pub some_has : (p : X → Bool) (xs : List X) → list_any p xs ≡ true → (x : X) × Has xs x × (p x ≡ true)
   some_has p [] is = absurd cc
   some_has p (y ∷ ys) is = elim (or_cases _ _ is) [ inl here ↦ (y, inl refl, here) | inr later ↦ let one = some_has p ys later in (one.0, inr one.1, one.2) ]
-
-  pub some_from : (p : X → Bool) (xs : List X) (x : X) → Has xs x → p x ≡ true → list_any p xs ≡ true
-  some_from p [] x there is = absurd there
-  some_from p (y ∷ ys) x (inl same) is = or_left _ _ (ap p (sym same) ∙ is)
-  some_from p (y ∷ ys) x (inr later) is = or_right _ _ (some_from p ys x later is)
 
   -- ---- filtered
 

@@ -2,5 +2,4 @@ mod Examples
 pub mod Heads
 pub mod SendingLemmas
 pub mod Served
-pub mod StepsTo
 pub mod Unread

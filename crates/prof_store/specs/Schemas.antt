@@ -32,10 +32,6 @@ IsStore s = (t : Tables) × Rests schema_two (Holds t) s
 abbrev pub IsFirstStore : State → Type 0
 IsFirstStore s = (t : Tables) × Rests schema_one (HoldsFirst t) s
 
--- a question to a database of any schema
-abbrev pub AsksAny : Bool → State → State → Type 0
-AsksAny answered old new = HasCleanDisk new → Asked old.now.schema answered old new
-
 -- what a failure of the query for it is: where there is no such table, or no row, another schema
 abbrev pub failed_opening : Error → OpenError
 failed_opening (SqlInputError fault) = ends.WrongSchema

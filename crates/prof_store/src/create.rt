@@ -9,7 +9,6 @@ ghost use Rattle.store_schema.specs.declared.errors.OpenError.TheVariants as end
 
 use crate::store::Store;
 use sqlite::{Alter, Connection};
-use std::alloc::Global;
 use store_schema::{OpenError, create_tables};
 
 impl<S: Alter> Store<S> {
@@ -17,7 +16,6 @@ impl<S: Alter> Store<S> {
     /// has some; `Store` answers a connection within a transaction too. A refusal changes nothing and hands
     /// the connection back.
     pub fn create(
-        alloc: Global,
         mut conn: Connection<S>,
     ) -> Result<Store<S>, (OpenError, Connection<S>)>
         ensures made { IfOk result (λ store. IsFaithful S.Store store → Creates true (state S.Store conn) (shown S.Store store)) }
@@ -25,10 +23,7 @@ impl<S: Alter> Store<S> {
         ensures wrong { IfErr result (λ e. (e.0 ≡ ends.WrongSchema) ↔ (¬ ((state S.Store conn).now.schema ≡ empty_schema))) }
     {
         match create_tables(&mut conn) {
-            Ok(()) => Ok(Store {
-                conn,
-                page: Vec::new(alloc),
-            }),
+            Ok(()) => Ok(Store { conn }),
             Err(end) => Err((end, conn)),
         }
     }

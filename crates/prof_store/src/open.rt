@@ -14,7 +14,6 @@ ghost use Rattle.store_schema.specs.declared.errors.OpenError.TheVariants as end
 use crate::store::Store;
 use sqlite::types::ValueRef;
 use sqlite::{Alter, Connection, Error, Row};
-use std::alloc::Global;
 use store_schema::{OpenError, error_of, migrate};
 
 /// The versions of tables that this program opens.
@@ -97,7 +96,6 @@ impl<S: Alter> Store<S> {
     /// `Store`: the tables could not be read, or not be brought up. A refusal changes nothing, and hands the
     /// connection back.
     pub fn open(
-        alloc: Global,
         mut conn: Connection<S>,
     ) -> Result<Store<S>, (OpenError, Connection<S>)>
         ensures by { IfOk result (λ store. IsFaithful S.Store store → IsOpenedBy S.Store conn store.conn (Ok tt)) }
@@ -108,10 +106,7 @@ impl<S: Alter> Store<S> {
             → e.0 ≢ ends.WrongSchema) }
     {
         match take_up(&mut conn) {
-            Ok(()) => Ok(Store {
-                conn,
-                page: Vec::new(alloc),
-            }),
+            Ok(()) => Ok(Store { conn }),
             Err(end) => Err((end, conn)),
         }
     }
@@ -120,7 +115,6 @@ impl<S: Alter> Store<S> {
     pub fn into_connection(self) -> Connection<S>
         ensures { result ≡ self.conn }
     {
-        let Store { conn, page: _ } = self;
-        conn
+        self.conn
     }
 }

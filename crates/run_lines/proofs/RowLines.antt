@@ -18,42 +18,6 @@ use Rattle.plain_tables.specs.Tables.{StoredCall, StoredStack}
 use Rattle.run_stores.specs.Files.{cell_row_of, cell_rows_at, cell_rows, call_row_of, call_rows_from, call_rows_at, call_rows, stack_rows}
 use Rattle.run_lines.specs.FromRows.{line_of_cell, line_of_stack, row_lines}
 
-cells_at : (run : ℕ) (numbers : List ℕ) (p : CellPlace) (event : ℕ) (costs : List ℕ) → map (line_of_cell run numbers) (numbered_at p event costs) ≡ cell_rows_at run numbers p event costs
-cells_at run numbers p event [] = refl
-cells_at run numbers p event (cost ∷ costs) = go (nat_lt 0 cost) (cells_at run numbers p (suc event) costs)
-  where
-    rest : List (CellRow ℕ)
-    rest = numbered_at p (suc event) costs
-
-    go : (b : Bool) → map (line_of_cell run numbers) rest ≡ cell_rows_at run numbers p (suc event) costs
-        → map (line_of_cell run numbers) (if b then record { object = p.place.object; file = p.place.file; function = p.place.function; line = p.place.line; thread = p.thread; event = event; cost = cost } ∷ rest else rest)
-        ≡ (if b then cell_row_of run numbers p event cost ∷ cell_rows_at run numbers p (suc event) costs else cell_rows_at run numbers p (suc event) costs)
-    go true more = ap (λ l. cell_row_of run numbers p event cost ∷ l) more
-    go false more = more
-
-pub cells_are : (run : ℕ) (numbers : List ℕ) (cells : List (CellPlace × List ℕ)) → map (line_of_cell run numbers) (numbered_cells cells) ≡ cell_rows run numbers cells
-cells_are run numbers [] = refl
-cells_are run numbers (e ∷ cells) = map-append (line_of_cell run numbers) (numbered_at e.0 0 e.1) (numbered_cells cells) ∙ ap₂ ◌++◌ (cells_at run numbers e.0 0 e.1) (cells_are run numbers cells)
-
--- the lines of a row of calls
-abbrev pub lines_of_call : ℕ → List ℕ → ArcRow ℕ (List ℕ) → List StoredCall
-lines_of_call run numbers r =
-    call_rows_at run numbers
-    (record { place = record { object = r.object; file = r.file; function = r.function; line = r.line }; object = r.called_object; file = r.called_file; function = r.called_function })
-    (record { count = r.count; costs = r.costs })
-
-abbrev pub lines_of_calls : ℕ → List ℕ → List (ArcRow ℕ (List ℕ)) → List StoredCall
-lines_of_calls run numbers [] = []
-lines_of_calls run numbers (r ∷ rows) = lines_of_call run numbers r ++ lines_of_calls run numbers rows
-
-pub calls_are : (run : ℕ) (numbers : List ℕ) (calls : List (Call × Calls)) → lines_of_calls run numbers (numbered_calls calls) ≡ call_rows run numbers calls
-calls_are run numbers [] = refl
-calls_are run numbers (e ∷ calls) = ap (λ l. call_rows_at run numbers e.0 e.1 ++ l) (calls_are run numbers calls)
-
-pub rows_of_calls : (run : ℕ) (numbers : List ℕ) (rows : List (ArcRow ℕ (Bor (List ℕ)))) → flat_map (row_lines run numbers) rows ≡ lines_of_calls run numbers (map plain_numbered rows)
-rows_of_calls run numbers [] = refl
-rows_of_calls run numbers (r ∷ rows) = ap (λ l. row_lines run numbers r ++ l) (rows_of_calls run numbers rows)
-
 -- a part more
 pub parts_more : (run : ℕ) (numbers : List ℕ) (c : Call) (part : ℕ) (costs : List ℕ) (cost : ℕ)
     → call_rows_from run numbers c part (costs ++ cost ∷ []) ≡ call_rows_from run numbers c part costs ++ (if nat_lt 0 cost then call_row_of run numbers c (part + length costs) cost ∷ [] else [])

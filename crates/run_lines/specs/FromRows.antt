@@ -13,9 +13,6 @@ use Rattle.run_stores.specs.Files.{cell_row_of, call_row_of, call_rows_at}
 abbrev pub place_of_cell : CellRow ℕ → CellPlace
 place_of_cell r = record { place = record { object = r.object; file = r.file; function = r.function; line = r.line }; thread = r.thread }
 
-abbrev pub line_of_cell : ℕ → List ℕ → CellRow ℕ → StoredCell
-line_of_cell run numbers r = cell_row_of run numbers (place_of_cell r) r.event r.cost
-
 abbrev pub call_of_call : ArcRow ℕ (Bor (List ℕ)) → Call
 call_of_call r = record {
   place = record { object = r.object; file = r.file; function = r.function; line = r.line };
@@ -33,13 +30,6 @@ line_of_stack run r = record { run = run; frames = r.stack.now; count = r.count 
 -- ---- the lines of a row of calls
 
 module _ (run : ℕ) (numbers : List ℕ) (row : ArcRow ℕ (Bor (List ℕ))) where
-  -- of a part
-  abbrev pub part_line : ℕ → ℕ → StoredCall
-  part_line part sum = call_row_of run numbers (call_of_call row) part sum
-
-  -- of a cost, unless it is 0
-  abbrev pub cost_lines : ℕ → ℕ → List StoredCall
-  cost_lines part cost = if nat_lt 0 cost then part_line part cost ∷ [] else []
 
   -- of all parts
   abbrev pub row_lines : List StoredCall

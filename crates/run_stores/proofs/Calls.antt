@@ -59,9 +59,6 @@ module _ {S : Type 0} (g : Ghosts S) where
 
   -- ---- calls that ask
 
-  pub asked_none : (s : S) → IsFaithful g s → Asked g false s s
-  asked_none s clean = record { stays = stays_none s clean; kept = keeps_none s; crash = λ left may. inl may }
-
   pub asked_less : (more less : Bool) (old new : S) → (IsTrue less → IsTrue more) → Asked g more old new → Asked g less old new
   asked_less more less old new so h = record { stays = stays_less more less old new so h.stays; kept = h.kept; crash = h.crash }
 
@@ -70,10 +67,6 @@ module _ {S : Type 0} (g : Ghosts S) where
 
   pub asked_if : (ok : Bool) (old new : S) → Asked g true old new → Asked g ok old new
   asked_if ok old new h = asked_less true ok old new (λ _. refl) h
-
-  -- what stood, and what was read, is so after a call that asked
-  pub asked_stands_yet : (t : Tables) (old new : S) → Asked g (g.is_usable old) old new → Represents g t old → Represents g t new
-  asked_stands_yet t old new h was = h.kept.represents t was (h.stays.is_usable (g.usable t old was))
 
   pub asked_reads_yet : (t : Tables) (old new : S) → Asked g (g.is_usable old) old new → ReadsAs g t old → ReadsAs g t new
   asked_reads_yet t old new h was = h.kept.reads t was (h.stays.is_usable (g.readable t old was))
@@ -104,9 +97,6 @@ module _ {S : Type 0} (g : Ghosts S) where
 
   pub asked_then : (ok : Bool) (old mid new : S) → Asked g true old mid → Asked g ok mid new → Asked g ok old new
   asked_then ok old mid new one two = asked_on ok old mid new (asked_if (g.is_usable old) old mid one) two
-
-  pub asked_more : (old mid new : S) → Asked g (g.is_usable old) old mid → Asked g true mid new → Asked g (g.is_usable old) old new
-  asked_more old mid new one two = asked_if (g.is_usable old) old new (asked_on true old mid new one two)
 
   pub asked_open_then : (ok : Bool) (old mid new : S) → Asked g (g.is_usable old) old mid → Asked g (ok && g.is_usable mid) mid new → Asked g (ok && g.is_usable old) old new
   asked_open_then ok old mid new one two =
@@ -159,13 +149,6 @@ module _ {S : Type 0} (g : Ghosts S) where
       ];
     }
 
-    -- what was only asked, where nothing had to be changed
-    pub changed_idle : (old new : S) → Asked g true old new → ((m : M) → Rests g (Before m) old → Rests g (After m) old) → Changed g Before After true true old new
-    changed_idle old new h idle = record {
-      stays = h.stays;
-      done = λ _ m was. asked_rests (After m) old new h (idle m was);
-      kept = λ (none : true ≡ false). absurd cc;
-      crash = λ m was left may. elim (h.crash left may) [ inl before ↦ inl before | inr none ↦ absurd none ];
     }
 
     -- the same change, told of other meanings of rows that are sound
@@ -186,10 +169,6 @@ module _ {S : Type 0} (g : Ghosts S) where
         → ((n : N) → Rests g (Earlier n) old → (m : M) × Rests g (Before m) old × ((t : Tables) → After m t → Later n t))
         → Changed g Before After ok done old new → Changed g Earlier Later ok done old new
     changed_as Earlier Later ok done old new means h = changed_soundly Earlier Later ok done old new (λ n was. let it = means n was in (it.0, it.1, λ t _ after. it.2 t after)) h
-
-    pub changed_err : {T E : Type 0} (r : Result T E) (old new : S) → IsErr r → Changed g Before After false false old new → Changed g Before After (is_ok r) (is_ok r) old new
-    changed_err (Ok x) old new is h = absurd (cc is)
-    changed_err (Err e) old new is h = h
 
   -- a change of any rows is one of those in some state
   pub changed_given : (P : Tables → Type 0) (After : Tables → Tables → Type 0) (ok done : Bool) (old new : S) → Changed g Are After ok done old new → Changed g (Given P) After ok done old new

@@ -12,8 +12,3 @@ pub added_so_far : {R M : Type 0} (Step : R → M → M → Type 0) (runs : List
     → Step (get_or runs at d) between after → AreAdded Step (take (at + 1) runs) before after
 added_so_far Step runs at d before between after low all one =
     subst (λ rs. AreAdded Step rs before after) (sym (take_more runs at d low)) (added_more Step (take at runs) (get_or runs at d) before between after all one)
-
--- where each run takes a step, they fold it
-pub added_fold : {R M P : Type 0} (step : M → R → M) → P → (runs : List R) (before after : M) → AreAdded (λ run old new. P → new ≡ step old run) runs before after → after ≡ fold step before runs
-added_fold step given [] before after all = all
-added_fold step given (run ∷ runs) before after all = added_fold step given runs all.0 after all.2 ∙ ap (λ m. fold step m runs) (all.1 given)

@@ -9,12 +9,6 @@ module _ {S : Type 0} (takes : S → List ℕ → S → Type 0) (from : S) where
   pub on_none : IsOn takes from [] from []
   on_none = record { gone = []; out = gone_none takes from; whole = refl }
 
-  -- bytes are held
-  pub held_on : (held bytes : List ℕ) (to : S) (text : List ℕ) → IsOn takes from held to text → IsOn takes from (held ++ bytes) to (text ++ bytes)
-  held_on held bytes to text on = record {
-    gone = on.gone;
-    out = on.out;
-    whole = sym (append_assoc on.gone held bytes) ∙ ap (λ l. l ++ bytes) on.whole;
   }
 
   -- all that was held was taken

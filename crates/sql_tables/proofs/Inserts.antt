@@ -66,19 +66,6 @@ module _ (schema : Schema) (contents : List (List Row)) (limit : Option ℕ) (pa
           },
         )
 
-  -- rows whose rowids nobody reads
-  pub inserts_rows : (columns : List Row) → table.key ≡ None → written ≡ unnumbered columns → (after.schema ≡ schema) × Contain schema (with_content at (content_at at contents ++ columns) contents) after.trees
-  inserts_rows columns unkeyed rows_are =
-      let here = content_there schema.tables contents trees at (plainly table) there was.contents_are in
-      let all = appended columns (trees table.tree) here.numbered in
-      let counted : (rows : List Row) → rows_that_count (plainly table) rows ≡ map (drop 1) rows = λ rows. ap (λ k. if is_some k then rows else map (drop 1) rows) unkeyed in
-      let same : edited trees (edit_of trees (plainly table) [] Chosen 0 (value_rows (stamped (plainly table) params) width (length terms / width) terms)) ≡ put_all (trees table.tree) (numbered Chosen (trees table.tree) (unnumbered columns)) =
-      ap (λ rows. put_all (trees table.tree) (numbered Chosen (trees table.tree) rows)) rows_are in
-      inserted (content_at at contents ++ columns) (record {
-        numbered = subst (IsShaped shape.Table) (sym same) all.numbered;
-        rows_are = counted _ ∙ ap (map (drop 1)) same ∙ all.columns_are ∙ ap (λ l. l ++ columns) (sym (counted (trees table.tree)) ∙ here.rows_are);
-      })
-
   -- a row whose key is given, and above each that is there
   pub inserts_keyed : (n : ℤ) (columns : Row) (key : ℕ) → table.key ≡ Some key → written ≡ (Int n ∷ columns) ∷ [] → AllByRecursion (λ r. value_cmp (rowid r) (Int n) ≡ Less) (content_at at contents)
       → (after.schema ≡ schema) × Contain schema (with_content at (content_at at contents ++ (Int n ∷ columns) ∷ []) contents) after.trees
@@ -93,19 +80,4 @@ module _ (schema : Schema) (contents : List (List Row)) (limit : Option ℕ) (pa
       inserted (content_at at contents ++ (Int n ∷ columns) ∷ []) (record {
         numbered = subst (IsShaped shape.Table) (sym same) (IsShaped-put_row (Int n ∷ columns) (trees table.tree) refl here.numbered);
         rows_are = counted _ ∙ same ∙ last ∙ ap (λ l. l ++ (Int n ∷ columns) ∷ []) rows_were;
-      })
-
-  -- a row whose key is left to be chosen: it is one above the last
-  pub inserts_next : (columns : Row) (key : ℕ) → table.key ≡ Some key → written ≡ (Null ∷ columns) ∷ [] → (after.schema ≡ schema) × Contain schema (with_content at (content_at at contents ++ (Int (next_rowid (content_at at contents)) ∷ columns) ∷ []) contents) after.trees
-  inserts_next columns key keyed row_is =
-      let here = content_there schema.tables contents trees at (plainly table) there was.contents_are in
-      let counted : (rows : List Row) → rows_that_count (plainly table) rows ≡ rows = λ rows. ap (λ k. if is_some k then rows else map (drop 1) rows) keyed in
-      let rows_were : trees table.tree ≡ content_at at contents = sym (counted (trees table.tree)) ∙ here.rows_are in
-      let new = Int (next_rowid (trees table.tree)) ∷ columns in
-      let last : put_row new (trees table.tree) ≡ trees table.tree ++ new ∷ [] = put_last new (trees table.tree) (below_next (trees table.tree) here.numbered.0 here.numbered.1) in
-      let same : edited trees (edit_of trees (plainly table) [] Chosen 0 (value_rows (stamped (plainly table) params) width (length terms / width) terms)) ≡ put_row new (trees table.tree) =
-      ap (λ rows. put_all (trees table.tree) (numbered Chosen (trees table.tree) rows)) row_is in
-      inserted (content_at at contents ++ (Int (next_rowid (content_at at contents)) ∷ columns) ∷ []) (record {
-        numbered = subst (IsShaped shape.Table) (sym same) (IsShaped-put_row new (trees table.tree) refl here.numbered);
-        rows_are = counted _ ∙ same ∙ last ∙ ap (λ rows. rows ++ (Int (next_rowid rows) ∷ columns) ∷ []) rows_were;
       })

@@ -36,32 +36,7 @@ module _ {X : Type 0} (n : X → ℕ) where
       let first : n x < n y = h 0 x (omega arith) in
       ((first, above x y ys first more.0), more)
 
--- two tables of which one is the other in another order
-pub same_permuted : (xs ys : List Row) → IsTable xs → IsTable ys → IsPermutation xs ys → xs ≡ ys
-same_permuted xs ys p q same = same_rows xs ys p q (λ r h. has_permuted ys xs r (IsPermutation-sym xs ys same) h) (λ r h. has_permuted xs ys r same h)
-
--- a query with no test shows all rows
-all_pass : (params : Row) (rows : List Row) → filter (passes params []) rows ≡ rows
-all_pass params [] = refl
-all_pass params (r ∷ rows) = ap (λ l. r ∷ l) (all_pass params rows)
-
 module _ (tree : ℕ) (terms project : List Term) (order : List (Term × Key)) (rows : List Row) (params : Row) (answer : List Row) (s : Selects tree terms project order rows params answer) where
-  abbrev shows : Row → Row
-  shows r = (output (sorted_scan tree terms project order) (params ∷ r ∷ [])).1
-
-  -- the answer shows the rows that pass
-  pub answer_permutes : IsPermutation (map shows (filter (passes params terms) rows)) answer
-  answer_permutes =
-      let q = sorted_scan tree terms project order in
-      let kept = filter (passes params terms) rows in
-      let left : map (λ (o : Output). o.1) (map (output q) (map (λ (r : Row). params ∷ r ∷ []) kept)) ≡ map shows kept =
-      map-map (λ (o : Output). o.1) (output q) _ ∙ map-map (λ (e : Env). (output q e).1) (λ (r : Row). params ∷ r ∷ []) kept in
-      subst₂ IsPermutation left (sym s.shown) (IsPermutation-map (λ (o : Output). o.1) _ s.ordered s.same)
-
-pub all_shown : (tree : ℕ) (project : List Term) (order : List (Term × Key)) (rows : List Row) (params : Row) (answer : List Row) → Selects tree [] project order rows params answer
-    → IsPermutation (map (λ r. (output (sorted_scan tree [] project order) (params ∷ r ∷ [])).1) rows) answer
-all_shown tree project order rows params answer s =
-    subst (λ l. IsPermutation (map (λ r. (output (sorted_scan tree [] project order) (params ∷ r ∷ [])).1) l) answer) (all_pass params rows) (answer_permutes tree [] project order rows params answer s)
 
 -- what is seen of the rows of a table whose rowids nobody reads
 pub seen_columns : {X : Type 0} (columns shown : X → Row) (seen : Row → Row) → ((id : Value) (x : X) → seen (id ∷ columns x) ≡ shown x) → (rows : List Row) (xs : List X) → AllByRecursion Numbered rows → map (drop 1) rows ≡ map columns xs
@@ -75,23 +50,3 @@ seen_columns columns shown seen same ((id ∷ cs) ∷ rows) (x ∷ xs) all h =
     let rest : map (drop 1) rows ≡ map columns xs = cc in
     let here : seen (id ∷ cs) ≡ shown x = ap (λ l. seen (id ∷ l)) first ∙ same id x in
     let cons = ap₂ {A = Row} ◌∷◌ here (seen_columns columns shown seen same rows xs all.1 rest) in cons
-
--- and of those that a test picks
-pub seen_picked : {X : Type 0} (columns shown : X → Row) (seen : Row → Row) → ((id : Value) (x : X) → seen (id ∷ columns x) ≡ shown x) → (p : Row → Bool) (q : X → Bool) → ((id : Value) (x : X) → p (id ∷ columns x) ≡ q x)
-    → (rows : List Row) (xs : List X) → AllByRecursion Numbered rows → map (drop 1) rows ≡ map columns xs → map seen (filter p rows) ≡ map shown (filter q xs)
-seen_picked columns shown seen same p q tests [] [] all h = refl
-seen_picked columns shown seen same p q tests [] (x ∷ xs) all h = absurd cc
-seen_picked columns shown seen same p q tests (r ∷ rows) [] all h = absurd cc
-seen_picked columns shown seen same p q tests ([] ∷ rows) (x ∷ xs) all h = absurd (let bad : false ≡ true = all.0 in cc)
-seen_picked {X} columns shown seen same p q tests ((id ∷ cs) ∷ rows) (x ∷ xs) all h =
-    let first : cs ≡ columns x = cc in
-    let rest : map (drop 1) rows ≡ map columns xs = cc in
-    let here : p (id ∷ cs) ≡ q x = ap (λ l. p (id ∷ l)) first ∙ tests id x in
-    let one : seen (id ∷ cs) ≡ shown x = ap (λ l. seen (id ∷ l)) first ∙ same id x in
-    go (p (id ∷ cs)) (q x) here one (seen_picked columns shown seen same p q tests rows xs all.1 rest)
-  where
-    go : (b c : Bool) → b ≡ c → seen (id ∷ cs) ≡ shown x → map seen (filter p rows) ≡ map shown (filter q xs) → map seen (cond b ((id ∷ cs) ∷ filter p rows) (filter p rows)) ≡ map shown (cond c (x ∷ filter q xs) (filter q xs))
-    go true true e one more = let cons = ap₂ {A = Row} ◌∷◌ one more in cons
-    go false false e one more = more
-    go true false e one more = absurd cc
-    go false true e one more = absurd cc

@@ -25,30 +25,6 @@ use Rattle.sqlite.proofs.Callers.{IsPlain}
 use Rattle.sqlite.proofs.StateLemmas.{survives_weaker}
 
 module _ (schema : Schema) (sql : List ℕ) (params : Row) (old new : State) (has : old.now.schema ≡ schema) (plain : IsPlain (understood schema sql)) where
-  bare : IsPlain (understood old.now.schema sql)
-  bare = subst (λ s. IsPlain (understood s sql)) (sym has) plain
-
-  pub shown_keeps : (rows : List Row) → Shown sql params old new rows → IsUnchanged old new
-  unfolding Shown
-  shown_keeps rows h = let none = (subst IsPlain h.1.is bare).0 in (rw none at h.2).3
-
-  pub fails_keeps : (e : Error) → FailsToQuery sql params old new e → IsUnchanged old new ⊎ IsRolledBack old new
-  unfolding FailsToQuery IsNotRun
-  fails_keeps e (inl (inl h)) = inl h.1
-  fails_keeps e (inl (inr h)) = inr h.3
-  fails_keeps e (inr h) = let none = (subst IsPlain h.1.is bare).0 in inl (rw none at h.2).3
-
-  pub row_keeps : (r : Result Row Error) → QueriesRow sql params old new r → IsUnchanged old new ⊎ IsRolledBack old new
-  unfolding QueriesRow
-  row_keeps (Ok row) (inl h) = inl h.1
-  row_keeps (Ok row) (inr h) = inl (shown_keeps h.0 h.1)
-  row_keeps (Err e) (inl h) = fails_keeps e h
-  row_keeps (Err e) (inr h) = inl (shown_keeps [] h.1)
-
-pub row_unchanged : (schema : Schema) (sql : List ℕ) (params : Row) (old new : State) → old.now.schema ≡ schema → IsPlain (understood schema sql) → (row : Row) → QueriesRow sql params old new (Ok row) → IsUnchanged old new
-unfolding QueriesRow
-row_unchanged schema sql params old new has plain row (inl h) = h.1
-row_unchanged schema sql params old new has plain row (inr h) = shown_keeps schema sql params old new has plain h.0 h.1
 
 -- a query that fails changes nothing, or rolls back, whatever its text
 pub failed_keeps : (sql : List ℕ) (params : Row) (old new : State) (e : Error) → FailsToQuery sql params old new e → IsUnchanged old new ⊎ IsRolledBack old new
@@ -61,9 +37,6 @@ failed_keeps sql params old new e (inr h) = shown_or_run h.0.returning h.2
     shown_or_run None k = inl k.3
     shown_or_run (Some what) (inl k) = inl k.1
     shown_or_run (Some what) (inr k) = inr k.3
-
-pub commits_nothing : (schema : Schema) (sql : List ℕ) (params : Row) (old new : State) → IsPlain (understood schema sql) → Survives old new (CommitsShowing sql params old) → Survives old new (λ _. ⊥)
-commits_nothing schema sql params old new plain = survives_weaker old new _ _ (λ _ db. commits_none sql (plain_has_none schema sql plain) params old db)
 
 module _ (tree : ℕ) (terms : List Term) (project : List Term) (order : List (Term × Key)) where
   abbrev pub sorted_scan : Query

@@ -99,25 +99,6 @@ own_id r h =
     let same : int_cmp z z ≡ Equal = grind (arith, ints) in
     rw (id_is r h) (ap is_eq (value_cmp-Int z z ∙ same))
 
-pub filter_columns : {X : Type 0} (columns : X → Row) (p : Row → Bool) (q : X → Bool) → ((id : Value) (x : X) → p (id ∷ columns x) ≡ q x)
-    → (rows : List Row) (xs : List X) → AllByRecursion Numbered rows → map (drop 1) rows ≡ map columns xs → map (drop 1) (filter p rows) ≡ map columns (filter q xs)
-filter_columns columns p q same [] [] all h = refl
-filter_columns columns p q same [] (x ∷ xs) all h = absurd cc
-filter_columns columns p q same (r ∷ rows) [] all h = absurd cc
-filter_columns columns p q same ([] ∷ rows) (x ∷ xs) all h = absurd (let bad : false ≡ true = all.0 in cc)
-filter_columns {X} columns p q same ((id ∷ cs) ∷ rows) (x ∷ xs) all h =
-    let first : cs ≡ columns x = cc in
-    let rest : map (drop 1) rows ≡ map columns xs = cc in
-    let here : p (id ∷ cs) ≡ q x = ap (λ l. p (id ∷ l)) first ∙ same id x in
-    go (p (id ∷ cs)) (q x) here first (filter_columns columns p q same rows xs all.1 rest)
-  where
-    go : (b c : Bool) → b ≡ c → cs ≡ columns x → map (drop 1) (filter p rows) ≡ map columns (filter q xs)
-        → map (drop 1) (cond b ((id ∷ cs) ∷ filter p rows) (filter p rows)) ≡ map columns (cond c (x ∷ filter q xs) (filter q xs))
-    go true true e first more = let cons = ap₂ {A = Row} ◌∷◌ first more in cons
-    go false false e first more = more
-    go true false e first more = absurd cc
-    go false true e first more = absurd cc
-
 -- ---- what SQL's = says of two texts and of two numbers
 
 pub texts_equal : (a b : List ℕ) → is_true (binary (Compare Eq Binary) (Text a) (Text b)) ≡ bytes_eq a b
@@ -143,24 +124,11 @@ numbers_equal a b = go (value_cmp (Int (pos a)) (Int (pos b))) ∙ ap is_eq (val
 
 -- ---- an action of a foreign key that deletes
 
-or_false : (b : Bool) → (b || false) ≡ b
-or_false true = refl
-or_false false = refl
-
 -- the rowids are those of the rows that pass
 pub record Picks (p : Row → Bool) (rows : List Row) (ids : List ℤ) : Type 0 where
   pub sound : (id : ℤ) → Has ids id → (r : Row) × Has rows r × (p r ≡ true) × (rowid r ≡ Int id)
   pub complete : (r : Row) (id : ℤ) → Has rows r → p r ≡ true → rowid r ≡ Int id → Has ids id
 
-pub found_picks : (terms : List Term) (rows : List Row) (params : Row) (found : List Row) → IsShaped shape.Table rows → AreFound terms rows params found → Picks (passes params terms) rows (ids_of found)
-found_picks terms rows params found numbered h = record {
-  sound = λ id there.
-      let x = has_mapped (λ (y : Row). id_in (rowid y)) found id there in
-      let s = h.sound x.0 x.1 in
-      let e : id ≡ id_of s.0 = x.2 ∙ ap (λ (y : Row). id_in (rowid y)) s.3 in
-      (s.0, s.1, s.2, id_is s.0 (all_has Numbered rows s.0 numbered.1 s.1) ∙ ap Int (sym e));
-  complete = λ r id there is at.
-      subst (Has (ids_of found)) (ap id_in at) (mapped_has (λ (y : Row). id_in (rowid y)) found (rowid r ∷ []) (h.complete r there is));
 }
 
 picked_is : (p : Row → Bool) (rows : List Row) (ids : List ℤ) → IsShaped shape.Table rows → Picks p rows ids → (r : Row) → Has rows r → list_any (λ id. has_rowid id r) ids ≡ p r
@@ -180,50 +148,3 @@ picked_is p rows ids numbered h r there = elim (cases_Bool (p r)) [
 
 pub left_by_picks : (p : Row → Bool) (rows : List Row) (ids : List ℤ) → IsShaped shape.Table rows → Picks p rows ids → without_all rows ids ≡ filter (λ r. not (p r)) rows
 left_by_picks p rows ids numbered h = without_all_is ids rows ∙ filter_same_on _ _ rows (λ r there. ap not (picked_is p rows ids numbered h r there))
-
--- what is taken out are the rows that pass
-pub taken_is : (p : Row → Bool) (rows : List Row) (ids : List ℤ) → IsShaped shape.Table rows → Picks p rows ids → (x : Row) → Has (map (row_at rows) ids) x → Has rows x × (p x ≡ true)
-taken_is p rows ids numbered h x there =
-    let id = has_mapped (row_at rows) ids x there in
-    let s = h.sound id.0 id.1 in
-    let at : row_at rows id.0 ≡ s.0 = row_at_is rows id.0 s.0 numbered.0 s.1 (subst (λ k. has_rowid k s.0 ≡ true) (ap id_in s.3) (own_id s.0 (all_has Numbered rows s.0 numbered.1 s.1))) in
-    (subst (Has rows) (sym (id.2 ∙ at)) s.1, ap p (id.2 ∙ at) ∙ s.2)
-
-pub is_taken_out : (p : Row → Bool) (rows : List Row) (ids : List ℤ) → IsShaped shape.Table rows → Picks p rows ids → (r : Row) → Has rows r → p r ≡ true → Has (map (row_at rows) ids) r
-is_taken_out p rows ids numbered h r there is =
-    let id = h.complete r (id_of r) there is (id_is r (all_has Numbered rows r numbered.1 there)) in
-    subst (Has (map (row_at rows) ids)) (row_at_is rows (id_of r) r numbered.0 there (own_id r (all_has Numbered rows r numbered.1 there))) (mapped_has (row_at rows) ids (id_of r) id)
-
-pub pairs_none : (olds : List Row) → pairs olds [] ≡ map (λ r. (r, [])) olds
-pairs_none [] = refl
-pairs_none (r ∷ olds) = ap (λ l. (r, []) ∷ l) (pairs_none olds)
-
--- a row of a listed table is one of its entries behind a rowid
-pub entry_of_row : {X : Type 0} (columns : X → Row) (rows : List Row) (xs : List X) → AllByRecursion Numbered rows → map (drop 1) rows ≡ map columns xs → (r : Row) → Has rows r
-    → (id : Value) × (x : X) × Has xs x × (r ≡ id ∷ columns x)
-entry_of_row columns [] xs all h r there = absurd there
-entry_of_row columns (r ∷ rows) [] all h q there = absurd (let bad : ◌≡◌ {A = List Row} (drop 1 r ∷ map (drop 1) rows) [] = h in cc)
-entry_of_row columns ([] ∷ rows) (x ∷ xs) all h q there = absurd (let bad : false ≡ true = all.0 in cc)
-entry_of_row columns ((id ∷ cs) ∷ rows) (x ∷ xs) all h q (inl same) = let first : cs ≡ columns x = cc in (id, x, inl refl, same ∙ ap (λ l. id ∷ l) first)
-entry_of_row columns ((id ∷ cs) ∷ rows) (x ∷ xs) all h q (inr later) =
-    let rest : map (drop 1) rows ≡ map columns xs = cc in
-    let it = entry_of_row columns rows xs all.1 rest q later in (it.0, it.1, inr it.2, it.3)
-
-pub row_of_entry : {X : Type 0} (columns : X → Row) (rows : List Row) (xs : List X) → AllByRecursion Numbered rows → map (drop 1) rows ≡ map columns xs → (x : X) → Has xs x
-    → (id : Value) × Has rows (id ∷ columns x)
-row_of_entry columns rows [] all h x there = absurd there
-row_of_entry columns [] (y ∷ xs) all h x there = absurd (let bad : ◌≡◌ {A = List Row} [] (columns y ∷ map columns xs) = h in cc)
-row_of_entry columns ([] ∷ rows) (y ∷ xs) all h x there = absurd (let bad : false ≡ true = all.0 in cc)
-row_of_entry columns ((id ∷ cs) ∷ rows) (y ∷ xs) all h x (inl same) = let first : cs ≡ columns y = cc in (id, inl (ap (λ l. id ∷ l) (ap columns same ∙ sym first)))
-row_of_entry columns ((id ∷ cs) ∷ rows) (y ∷ xs) all h x (inr later) =
-    let rest : map (drop 1) rows ≡ map columns xs = cc in
-    let it = row_of_entry columns rows xs all.1 rest x later in (it.0, inr it.1)
-
-pub any_same : {X : Type 0} (p : X → Bool) (c : Bool) (xs : List X) (x : X) → Has xs x → ((y : X) → Has xs y → p y ≡ c) → list_any p xs ≡ c
-any_same p c [] x there each = absurd there
-any_same p c (y ∷ []) x there each = or_false (p y) ∙ each y (inl refl)
-any_same p c (y ∷ z ∷ xs) x there each = ap₂ ◌||◌ (each y (inl refl)) (any_same p c (z ∷ xs) z (inl refl) (λ w h. each w (inr h))) ∙ or_self c
-  where
-    or_self : (b : Bool) → (b || b) ≡ b
-    or_self true = refl
-    or_self false = refl

@@ -42,22 +42,9 @@ write_runs old new Nothing text params count is h = absurd is
 write_runs old new CreateView text params count is h = h
 write_runs old new (DropView at) text params count is h = h
 
--- a statement that is refused changes nothing, and one that fails rolls back
-pub refused : (sql : List ℕ) (params : Row) (old new : State) (e : Error) → Executes sql params old new (Err e) → IsUnchanged old new ⊎ IsRolledBack old new
-unfolding ExecutesIn IsNotRun
-refused sql params old new e (inl (inl h)) = inl h.1
-refused sql params old new e (inl (inr h)) = inr h.3
-refused sql params old new e (inr h) = elim (cases_Bool (shows_rows false h.0)) [
-  | inl shows ↦ inl (rw shows at h.2).1
-  | inr runs ↦ elim (rw runs at h.2) [ inl same ↦ inl same.1 | inr fails ↦ inr fails.3 ]
 ]
 
 module _ (schema : Schema) (P : Trees → Type 0) where
-  pub works_if_same : (old new : State) → Works schema P old → IsUnchanged old new → Works schema P new
-  works_if_same old new was same = record {
-    schema_is = ap (λ (d : Database). d.schema) same.0.now_is ∙ was.schema_is;
-    holds = subst (λ (d : Database). P d.trees) (sym same.0.now_is) was.holds;
-    running = subst IsTrue (sym same.0.mode) was.running;
   }
 
 -- a statement inside a transaction leaves the last commit
@@ -68,21 +55,6 @@ inside_kept sql params old new (Err e) (inr h) is_open = (h.2.0.was_open, h.2.0.
 
 -- a statement that writes, as a schema understands it
 module _ (schema : Schema) (sql : List ℕ) (params : Row) (command : Command) (means : command_of (understood schema sql) ≡ command) (plain : IsPlain (understood schema sql)) (writes : IsWrite command) where
-  -- what the statement may commit
-  pub commits_as : (s : State) (db : Trees) → s.now.schema ≡ schema → CommitsBy sql params s db → MayWrite s None command (statement_of sql (understood schema sql)) params db
-  unfolding CommitsBy
-  commits_as s db has h =
-      let known = sym h.1.is ∙ ap (λ t. understood t sql) has in
-      let bare = subst IsPlain (sym known) plain in
-      let is : h.0.command ≡ command = ap command_of known ∙ means in
-      let text : text_of sql h.0 ≡ statement_of sql (understood schema sql) = ap (statement_of sql) known in
-      elim (rw (bare.0, bare.1, append-nil params) at h.2) [
-        | inl ends ↦ absurd (elim ends.0 [
-          | inl commit ↦ subst IsWrite (sym is ∙ commit) writes
-          | inr release ↦ subst IsWrite (sym is ∙ release.2) writes
-        ])
-        | inr write ↦ subst₂ (λ k t. MayWrite s None k t params db) is text write
-      ]
 
   -- what it makes of tables that P holds of
   module _ (P Q : Trees → Type 0)
@@ -95,27 +67,3 @@ module _ (schema : Schema) (sql : List ℕ) (params : Row) (command : Command) (
         let all = makes old.step_limit old.now.trees _ w.tally new.now was.holds w.sound
         (subst (λ t. Does old.step_limit plain_mode params (record old.now { schema = t }) (statement_of sql (understood schema sql)) None command (Ok (w.tally, new.now))) was.schema_is w.changed) in
         record { schema_is = all.0; holds = all.1; running = h.1.mode }
-
-    made : (s : State) (tally : Tally) (after : Database) → Rests schema P s → IsDatabase after → Does s.step_limit (mode_of s) params s.now (statement_of sql (understood schema sql)) None command (Ok (tally, after))
-        → (after.schema ≡ schema) × Q after.trees
-    made s tally after was sound h =
-        makes s.step_limit s.now.trees _ tally after was.holds sound
-        (subst (λ t. Does s.step_limit (mode_of s) params (record s.now { schema = t }) (statement_of sql (understood schema sql)) None command (Ok (tally, after))) was.schema_is h)
-
-    pub done : (old new : State) (count : ℕ) → Rests schema P old → Executes sql params old new (Ok count) → Rests schema Q new
-    done old new count was h =
-        let w = write_runs old new command _ params count writes (runs_as sql params old new schema was.schema_is command means plain count h) in
-        let all = made old w.tally new.now was w.sound w.changed in
-        record {
-          schema_is = all.0;
-          holds = all.1;
-          settled = w.shown.committed_is ∙ ap (λ b. if b then old.committed else new.now) was.autocommit;
-          autocommit = w.shown.mode ∙ was.autocommit;
-          usable = w.shown.is_open;
-        }
-
-    pub crash : (old new : State) → Rests schema P old → Survives old new (CommitsBy sql params old) → Survives old new Q
-    crash old new was h = survives_weaker old new (CommitsBy sql params old) Q (λ _ db may.
-        let it = commits_as old db was.schema_is may in
-        let all = made old it.1 it.2 was it.4 it.3 in
-        subst Q (sym it.5) all.1) h

@@ -37,16 +37,8 @@ is = op2 (Compare Eq Binary)
 abbrev pub columns_at : List ℕ → List Term
 columns_at = map (col 1)
 
--- the rows with a number at a place, in a window of rowids: ?1 is the number, ?2 the end below, ?3 the end
-abbrev pub window_terms : ℕ → List Term
-window_terms at = is (col 1 at) (col 0 0) ∷ op2 (Compare Gt Binary) (col 1 0) (col 0 1) ∷ op2 (Compare Le Binary) (col 1 0) (col 0 2) ∷ []
-
 abbrev pub by_rowid : List (Term × Key)
 by_rowid = (col 1 0, ascending Binary) ∷ []
-
--- their rowids and columns, in the order of the rowids
-abbrev pub window_query : ℕ → ℕ → List ℕ → Query
-window_query tree at places = record (scan tree (window_terms at) (columns_at (0 ∷ places))) { order = by_rowid }
 
 -- the least and the greatest rowid of the rows with a number at a place
 abbrev pub ends_terms : ℕ → List Term

@@ -32,10 +32,6 @@ use Rattle.plain_tables.specs.Files.{number_in}
 use Rattle.store_schema.proofs.Means.{id_of_name_terms, id_of_name_shown, id_of_name_order}
 use Rattle.store_schema.proofs.Values.{blobs_equal}
 
--- the rows of the names
-name_rows : (t : Tables) (db : Trees) → Holds t db → db 11 ≡ map name_columns t.names
-name_rows t db h = (content_there schema_two.tables (contents_of t) db 5 name_at refl h.contain.contents_are).rows_are
-
 -- SQL's <> on two numbers
 numbers_differ : (a b : ℕ) → differ (number a) (number b) ≡ not (eqb a b)
 unfolding binary
@@ -90,38 +86,7 @@ line_named t db sound rows_are line there =
     let itself = (bytes_eq-Decides line.name line.name).1 refl in
     (some_from _ t.names line there itself, number_of_line t.names line.name line (λ a h e. same_number t db sound rows_are a line h there e) there itself)
 
-pub line_is_held : (t : Tables) (db : Trees) → Holds t db → (line : NameRow) → Has t.names line → (has_name t line.name ≡ true) × (number_in t.names line.name ≡ line.number)
-line_is_held t db was = line_named t db was.contain.sound (name_rows t db was)
-
--- names that equal a third are equal
-equal_both : (a b c : List ℕ) → bytes_eq a c ≡ true → bytes_eq b c ≡ true → bytes_eq a b ≡ true
-equal_both a b c x y = (bytes_eq-Decides a b).1 ((bytes_eq-Decides a c).0 x ∙ sym ((bytes_eq-Decides b c).0 y))
-
--- the row's test is the name's
-name_passes : (name : List ℕ) (line : NameRow) → passes (Blob name ∷ []) id_of_name_terms (name_columns line) ≡ bytes_eq line.name name
-name_passes name line = and_true _ ∙ blobs_equal line.name name
-
 module _ (t : Tables) (db : Trees) (was : Holds t db) (name : List ℕ) where
-  -- a row of the answer shows the number of the name, which is held
-  pub shows_number : (answer : List Row) (row : Row) → Selects 11 id_of_name_terms id_of_name_shown id_of_name_order (db 11) (Blob name ∷ []) answer → Has answer row
-      → (has_name t name ≡ true) × (column row 0 ≡ number (number_in t.names name))
-  shows_number answer row s there =
-      let r = shown_row 11 id_of_name_terms id_of_name_shown id_of_name_order (db 11) (Blob name ∷ []) answer s row there in
-      let l = has_mapped name_columns t.names r.0 (subst (λ rows. Has rows r.0) (name_rows t db was) r.1) in
-      let is : bytes_eq l.0.name name ≡ true = sym (name_passes name l.0) ∙ ap (passes (Blob name ∷ []) id_of_name_terms) (sym l.2) ∙ r.2 in
-      let same = number_of_line t.names name l.0 (λ a h e. same_number t db was.contain.sound (name_rows t db was) a l.0 h l.1 (equal_both a.name l.0.name name e is)) l.1 is in
-      (some_from _ t.names l.0 l.1 is, ap (λ o. column o 0) r.3 ∙ ap (λ o. column o 0) l.2 ∙ ap number (sym same))
-
-  -- where there is no row the name is not held
-  pub shows_none : Selects 11 id_of_name_terms id_of_name_shown id_of_name_order (db 11) (Blob name ∷ []) [] → has_name t name ≡ false
-  shows_none s = go (has_name t name) refl
-    where
-      go : (b : Bool) → has_name t name ≡ b → b ≡ false
-      go false e = refl
-      go true e =
-          let l = some_has (λ (line : NameRow). bytes_eq line.name name) t.names e in
-          let there = subst (λ rows. Has rows (name_columns l.0)) (sym (name_rows t db was)) (mapped_has name_columns t.names l.0 l.1) in
-          absurd (row_shown 11 id_of_name_terms id_of_name_shown id_of_name_order (db 11) (Blob name ∷ []) [] s (name_columns l.0) there (name_passes name l.0 ∙ l.2))
 
 -- ---- the number of a name, if it is held
 

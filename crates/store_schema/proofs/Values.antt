@@ -34,10 +34,6 @@ cast_whole z = either _ (Int z)
 pub cast_number : (n : ℕ) → cast Integer (Int (pos n)) ≡ Int (pos n)
 cast_number n = cast_whole (pos n)
 
-pub cast_text_or_null : (text : Option (List ℕ)) → cast Text (text_or_null text) ≡ text_or_null text
-cast_text_or_null None = refl
-cast_text_or_null (Some text) = refl
-
 -- SQL's = on two blobs
 pub blobs_equal : (a b : List ℕ) → is_true (binary (Compare Eq Binary) (Blob a) (Blob b)) ≡ bytes_eq a b
 unfolding binary

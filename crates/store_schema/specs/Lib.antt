@@ -3,11 +3,9 @@ pub mod Errors
 pub mod First
 pub mod Lines
 pub mod Making
-pub mod ManyTexts
 pub mod Migrated
 pub mod Names
 pub mod Schema
-pub mod Seen
 pub mod Steps
 pub mod Tables
 pub mod Texts

@@ -6,7 +6,3 @@ use Rattle.plain_tables.specs.Tables.{Tables, RunRow}
 -- each run's number is below a number
 abbrev pub IsAbove : ℕ → Tables → Type 0
 IsAbove n t = AllByRecursion (λ (r : RunRow). r.number < n) t.runs
-
--- a number is above each run's, and below the next
-abbrev pub IsNext : ℕ → Tables → Type 0
-IsNext n t = (n < t.next) × IsAbove n t

@@ -69,10 +69,6 @@ module _ {S : Type 0} (g : Ghosts S) where
     pub survives : Survives (inside old) (inside new) (λ _. ⊥)
     pub ran : IsFaithful new → IsRunning old → (result : Result ℕ Error) × (is_done ≡ is_ok result) × ExecutesInside 0 text params (inside old) (inside new) result
 
--- a call over a connection that changes its tables, where they are in a state for it, by one commit at its end, or leaves all as it was
-abbrev pub CommitsIf : {S : Type 0} → Ghosts S → Bool → (Tables → Type 0) → (Tables → Tables) → Held S → Held S → Type 0
-CommitsIf g is_done given change old new = HasCleanDisk (state g new) → Changed schema_two (λ t db. given t × Holds t db) (λ t. Holds (change t)) is_done is_done (state g old) (state g new)
-
 -- over a connection that was shut it commits nothing
 abbrev pub CommitsUnlessShut : {S : Type 0} → Ghosts S → Held S → Held S → Type 0
 CommitsUnlessShut g old new = HasCleanDisk (state g new) → KeepsIfShut (state g old) (state g new)

@@ -3,39 +3,27 @@
 //! one transaction.
 #![tactic(auto)]
 
-// The values in the columns of a row (specs/Names.antt).
-mod columns;
 // Why the store refuses (specs/Errors.antt).
 mod errors;
 // The kinds of runs, as numbers.
 mod kinds;
-// Digests and labels in the columns of a row.
-mod labels;
 // The lines of the tables.
 mod table_rows;
 // Makes the tables of a new store (specs/Created.antt is what they are then).
 mod making;
 // Makes version 2 of a store of version 1 (specs/Migrated.antt is what its tables are then).
 mod moving;
-// Rows, read into lists.
-mod row_lists;
 // Whole numbers that a column can hold.
 mod column_int;
 // The call through which every statement within a transaction goes (specs/Within.antt, Steps.antt).
 mod writing;
 
 pub use column_int::{ColumnInt, column_int_of, small_of};
-pub use columns::{
-    bytes_at, first_number, number_at, number_or_null_at, sum_at, text_at, text_or_null_at,
-    whole_at,
-};
 pub use errors::{OpenError, OutOfForm, error_of};
-pub use kinds::{kind_at, number_of_kind};
-pub use labels::{digest_at, label_at};
+pub use kinds::number_of_kind;
 pub use making::create_tables;
 pub use moving::migrate;
 pub use plain_tables::{StoreError, is_group_name, is_label};
-pub use row_lists::{FromRow, Rises, read_rising, read_rows, rise};
 pub use table_rows::{
     CoefRow, DerivedRow, EventRow, HeadRows, HeldStack, RunRow, StoredCall, StoredCell, StoredStack,
 };

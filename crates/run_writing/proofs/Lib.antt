@@ -1,5 +1,0 @@
-pub mod Finding
-pub mod Queueing
-mod Refusals
-pub mod RowsWritten
-pub mod RunInserts

@@ -1,2 +1,0 @@
-pub mod LineInserts
-pub mod Queues

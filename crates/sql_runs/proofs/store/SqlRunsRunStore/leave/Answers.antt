@@ -1,8 +1,0 @@
-use Rattle.sql_runs.proofs.Relations.{changed_passed}
-use Rattle.sql_runs.proofs.store.SqlRunsRunStore.leave.Goals as goal
-
-pub returns : goal.returns
-returns g c = record {
-  changes = λ clean. changed_passed g.S.Store _ _ _ _ (c.leave.ensures.changes clean);
-  shut = c.leave.ensures.shut;
-}
