@@ -1,7 +1,6 @@
 -- The names that are held, beside the rows and the lines that they show.
-use Rattle.std.specs.Prelude.{◌≡◌, ◌<◌, ℕ, List, [], ◌∷◌, get_or, length}
-use Rattle.sqlite_value.specs.declared.value.Value.TheVariants.{Blob}
-use Rattle.sqlite_value.specs.Order.{Row, column}
+use Rattle.std.specs.Prelude.{◌≡◌, ◌<◌, ℕ, List, get_or, length}
+use Rattle.sqlite_value.specs.Order.{Row}
 use Rattle.plain_tables.specs.Tables.{NameRow}
 use Rattle.store_schema.specs.Tables.{number}
 use Rattle.held_lines.specs.declared.held_names.HeldName.{HeldName}

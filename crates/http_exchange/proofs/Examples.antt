@@ -5,7 +5,6 @@ use Rattle.matchit.proofs.OnLiterals.{matchit_on_literals}
 use Rattle.httparse.specs.Grammar.{RequestHead, Field, crlf, trim_ows}
 use Rattle.percent_encoding.specs.Percent.{percent_decode}
 use Rattle.cost_rows.specs.declared.keys.Key.TheVariants as key
-use Rattle.report_texts.specs.declared.call_sides.CallSide.TheVariants as side
 use Rattle.http_exchange.specs.Texts.{parts_of}
 use Rattle.http_exchange.specs.Places.{methods_of, joined}
 use Rattle.http_exchange.specs.Routes.{routes, place_of}

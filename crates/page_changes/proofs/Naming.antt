@@ -1,5 +1,5 @@
 -- Rows of names and numbers, found among others.
-use Rattle.std.proofs.Common.{◌≡◌, ℕ, ℤ, false, is_eq, bytes_eq, Option, Some, None, List, [], ◌∷◌, ◌++◌, refl, sym, ap, subst, ◌∙◌}
+use Rattle.std.proofs.Common.{◌≡◌, ℕ, ℤ, false, is_eq, bytes_eq, Option, None, List, [], ◌∷◌, ◌++◌, refl, ap, subst, ◌∙◌}
 use Rattle.std.proofs.lemmas.Map.Text.{is_eq-slice_cmp}
 use Rattle.sqlite_record.specs.declared.fields.Fields.{Fields}
 use Rattle.sqlite_record.specs.Fields.{GivesField, fields_left}
@@ -7,8 +7,7 @@ use Rattle.sqlite_value.specs.declared.value.Value.TheVariants.{Int, Null, Text}
 use Rattle.sqlite_value.specs.declared.value.ValueRef.{ValueRef}
 use Rattle.sqlite_value.proofs.OrderLemmas.{value_cmp-Text}
 use Rattle.sqlite_value.specs.Order.{Row, value_cmp}
-use Rattle.store_schema.specs.Tables.{number_or_null}
-use Rattle.page_changes.specs.Named.{AreOthers, IsOther, IsSought, is_of_name, named}
+use Rattle.page_changes.specs.Named.{AreOthers, IsOther, is_of_name, named}
 
 module _ (row : Row) (id : ℤ) (read : List ℕ) (m : Option ℕ) (is : row ≡ named id read m) (name : List ℕ) (sought : Option ℕ) where
   -- a row of another name

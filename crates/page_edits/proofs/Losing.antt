@@ -1,5 +1,5 @@
 -- A tree loses rows that a test picks, one part after another.
-use Rattle.std.proofs.Common.{◌≡◌, ℕ, suc, eq-eqb, Result, MatchResult, Ok, Err, Bool, true, false, not, List, [], ◌∷◌, map, filter, refl, sym, ap, subst, ◌∙◌, inl, inr, is_lt, is_eq, is_gt, Ordering, Less, Equal, Greater}
+use Rattle.std.proofs.Common.{◌≡◌, ℕ, suc, eq-eqb, Result, MatchResult, Ok, Err, Bool, true, false, List, [], ◌∷◌, map, refl, sym, ap, subst, ◌∙◌, inl, inr, is_lt, is_eq, is_gt, Ordering, Less, Equal, Greater}
 use Rattle.std.specs.Ordering.{ordering_reverse}
 use Rattle.std.proofs.lemmas.Bool.{cases_Bool}
 use Rattle.std.proofs.lemmas.Cmp.{tied_itself}

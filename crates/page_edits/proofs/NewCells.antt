@@ -6,7 +6,7 @@ use Rattle.std.specs.List.{insert}
 use Rattle.sqlite_format.specs.declared.kind.Tree.{Tree}
 use Rattle.sqlite_format.specs.declared.kind.Tree.TheVariants.{Table, Index}
 use Rattle.sqlite_format.specs.Cell.{IsRowOf, IsCellOf, body_key, local_len, local_part, spilled_len}
-use Rattle.sqlite_format.specs.Page.{IsPage, page_cells}
+use Rattle.sqlite_format.specs.Page.{page_cells}
 use Rattle.sqlite_format.specs.PageEdit.{AddsCell}
 use Rattle.sqlite_format.specs.Bytes.{u16_at}
 use Rattle.sqlite_format.proofs.PageLemmas.{length-page_cells}

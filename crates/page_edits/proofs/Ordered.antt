@@ -3,9 +3,7 @@ use Rattle.std.proofs.Common.{◌≡◌, List, [], ◌∷◌, ◌++◌, refl, sy
 use Rattle.std.specs.List.{AllByRecursion}
 use Rattle.std.proofs.lemmas.List.{append_assoc}
 use Rattle.sqlite_value.specs.Order.{Row, value_cmp}
-use Rattle.sqlite_value.specs.Keys.{entry_cmp}
-use Rattle.sqlite_value.specs.declared.keys.Order.{Order as Keys}
-use Rattle.sqlite_trees.specs.Tree.{IsAscending, IsTable, IsIndex, rowid, put_row, insert_entry}
+use Rattle.sqlite_trees.specs.Tree.{IsAscending, IsTable, rowid, put_row}
 use Rattle.page_edits.specs.Places.{Place, place_all}
 
 module _ (place : Place) (Below : Row → Row → Type 0) (none : (new : Row) → place new [] ≡ new ∷ [])

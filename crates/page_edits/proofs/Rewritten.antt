@@ -1,10 +1,9 @@
 -- A tree one of whose leaves has other cells has their items in the place of its own.
-use Rattle.std.proofs.Common.{◌≡◌, ◌⊎◌, ℕ, zero, suc, ◌+◌, ◌<◌, ◌≤◌, true, false, List, [], ◌∷◌, ◌++◌, length, map, take, drop, refl, sym, ap, subst, ◌∙◌, inl, inr, arith, append-nil, take-append-drop}
+use Rattle.std.proofs.Common.{◌≡◌, ◌⊎◌, ℕ, zero, suc, ◌+◌, ◌<◌, ◌≤◌, true, false, List, [], ◌++◌, length, map, take, drop, refl, sym, ap, subst, ◌∙◌, inl, inr, arith, append-nil, take-append-drop}
 use Rattle.std.proofs.lemmas.Bool.{cases_eq}
 use Rattle.std.proofs.lemmas.List.{append_assoc}
 use Rattle.sqlite_format.specs.Page.{page_cells}
 use Rattle.sqlite_pages.specs.PageMap.{PageMap}
-use Rattle.sqlite_btree.specs.Cut.{IsIn}
 use Rattle.sqlite_btree.specs.Items.{Form, Item, cell_item, kind_at}
 use Rattle.sqlite_btree.specs.Part.{ChangesOwn, Part, with_page}
 use Rattle.sqlite_btree.specs.Tree.{EachChild, IsNode, IsOrdered, IsPageOf, IsRoot, IsTop, IsTree, Reaches, cells_of, child_at, child_of, fan_items, header_of, items_before, items_behind, right_of, top_cells, tree_items}

@@ -3,7 +3,7 @@ use Rattle.std.proofs.Common.{◌≡◌, cond, ℕ, Bool, true, false, List, [],
 use Rattle.std.proofs.lemmas.Bool.{cases_Bool}
 use Rattle.sqlite_pages.specs.PageMap.{PageMap}
 use Rattle.sqlite_btree.specs.declared.batch.Batch.{Batch}
-use Rattle.sqlite_btree.specs.Batch.{left_in, taken, IsFilled, TookFirst}
+use Rattle.sqlite_btree.specs.Batch.{taken, IsFilled, TookFirst}
 use Rattle.sqlite_btree.specs.Chain.{Layout}
 use Rattle.sqlite_btree.specs.Cut.{Ascends, Each, IsIn, from_cut}
 use Rattle.sqlite_btree.specs.Stored.{as_record}

@@ -1,5 +1,5 @@
 -- Rows taken out of a tree, one part after another.
-use Rattle.std.proofs.Common.{◌≡◌, ℕ, zero, suc, ◌+◌, ◌-◌, ◌<◌, ◌≤◌, ℤ, Bool, true, false, not, List, [], ◌∷◌, ◌++◌, length, take, drop, filter, fold, Result, MatchResult, refl, sym, ap, subst, ◌∙◌, arith}
+use Rattle.std.proofs.Common.{◌≡◌, ℕ, ◌+◌, ◌-◌, ℤ, List, [], ◌∷◌, ◌++◌, Result, MatchResult, refl, sym, ap, subst, arith}
 use Rattle.sqlite_pages.specs.PageMap.{PageMap}
 use Rattle.sqlite_pages.specs.declared.error.Error.{Error}
 use Rattle.sqlite_pages.specs.declared.pages.Pages.{Ghosts}
@@ -13,7 +13,7 @@ use Rattle.sqlite_store.specs.Db.{IsDb, Names, Edits}
 use Rattle.sqlite_store.specs.Limit.{HasDeepTree}
 use Rattle.page_edits.specs.Removals.{without_rowids, FailsToThin, Thins, ThinsBy, WasDeep}
 use Rattle.page_edits.specs.Trees.{EditsTree}
-use Rattle.page_edits.proofs.Placing.{edits_as, edits_twice, names_after}
+use Rattle.page_edits.proofs.Placing.{edits_twice, names_after}
 
 pub without_rowids-append : (first next : List ℤ) (rows : List Row) → without_rowids (first ++ next) rows ≡ without_rowids next (without_rowids first rows)
 without_rowids-append [] next rows = refl

@@ -1,5 +1,5 @@
 -- What a trimmed leaf makes of the rows that the pages read as.
-use Rattle.std.proofs.Common.{◌≡◌, ℕ, zero, suc, ◌+◌, ◌<◌, ◌≤◌, ℤ, pos, Bool, true, false, not, List, [], ◌∷◌, ◌++◌, length, map, take, drop, filter, get_or, refl, sym, ap, ap₂, subst, ◌∙◌, inl, inr, arith, int_lt, int_cmp, is_lt, is_eq, Less, Equal}
+use Rattle.std.proofs.Common.{◌≡◌, ℕ, suc, ◌+◌, ◌≤◌, ℤ, pos, Bool, true, false, not, List, [], ◌∷◌, ◌++◌, length, map, take, drop, filter, get_or, refl, sym, ap, ap₂, subst, ◌∙◌, inl, arith, int_lt, int_cmp, is_lt, is_eq}
 use Rattle.std.proofs.lemmas.Int.{ints}
 use Rattle.std.proofs.lemmas.List.{drop-map, map-append, take-map}
 use Rattle.std.proofs.lemmas.List.Elements.{filter-append}
@@ -10,7 +10,7 @@ use Rattle.sqlite_btree.specs.Chain.{Entry}
 use Rattle.sqlite_btree.specs.Cut.{Ascends, Each, drop_at_cut}
 use Rattle.sqlite_btree.specs.Stored.{IsIndex, IsTable, as_record, as_row, by_rowid, no_order, rowid_of}
 use Rattle.sqlite_btree.proofs.CutLemmas.{Ascends-across, Ascends-without, Each-append, Each-from, Each-left, Each-right, skips}
-use Rattle.sqlite_btree.proofs.ViewLemmas.{ascends_records, ascends_rows}
+use Rattle.sqlite_btree.proofs.ViewLemmas.{ascends_rows}
 use Rattle.sqlite_record.specs.Affinity.{widen}
 use Rattle.sqlite_record.specs.Record.{decode}
 use Rattle.sqlite_record.specs.Strict.{IsRecord}

@@ -1,13 +1,13 @@
 -- A stored tree one of whose leaves has lost cells, one after another.
-use Rattle.std.proofs.Common.{◌≡◌, ◌≢◌, ◌⊎◌, ℕ, zero, suc, ◌+◌, ◌-◌, ◌<◌, ◌≤◌, Bool, true, false, List, [], ◌∷◌, ◌++◌, length, map, take, drop, get_or, refl, sym, ap, ap₂, subst, ◌∙◌, inl, inr, arith, append-nil, take-append-drop, length-drop}
+use Rattle.std.proofs.Common.{◌≡◌, ℕ, suc, ◌+◌, ◌-◌, ◌<◌, ◌≤◌, Bool, true, List, [], ◌∷◌, ◌++◌, length, map, take, drop, get_or, refl, sym, ap, subst, ◌∙◌, inl, inr, arith, append-nil, take-append-drop, length-drop}
 use Rattle.std.proofs.lemmas.List.{append_assoc, drop-drop, get_or-drop, get_or-take, length-map, length-take-le, map-append}
 use Rattle.sqlite_pages.specs.PageMap.{PageMap}
 use Rattle.sqlite_format.specs.Cell.{first_overflow, spilled_len}
 use Rattle.sqlite_format.specs.declared.kind.Tree.{Tree}
 use Rattle.sqlite_format.specs.declared.kind.Tree.TheVariants.{Index}
-use Rattle.sqlite_btree.specs.Chain.{Entry, IsChained, IsLinkAmong, IsLinkOfRow, IsOnChain, Layout, entry_of}
+use Rattle.sqlite_btree.specs.Chain.{Entry, IsChained, IsLinkOfRow, IsOnChain, Layout, entry_of}
 use Rattle.sqlite_btree.specs.Cut.{Ascends, Each, IsIn}
-use Rattle.sqlite_btree.specs.Items.{Form, Item, body_of, cell_item, item_in, rows_of}
+use Rattle.sqlite_btree.specs.Items.{Item, body_of, cell_item, item_in, rows_of}
 use Rattle.sqlite_btree.specs.Part.{ChangesOwn, Part, with_page}
 use Rattle.sqlite_btree.specs.Stored.{IsLaidIn, IsStored, IsStrict, IsTight, IsWhole, IsWritten, Order, form_of}
 use Rattle.sqlite_btree.specs.Write.{IsRooted}

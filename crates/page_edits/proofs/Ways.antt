@@ -1,6 +1,5 @@
 -- Ways down from a page to a leaf.
-use Rattle.std.proofs.Common.{◌≡◌, ℕ, zero, suc, ◌≤◌, ◌<◌, false, true, List, [], ◌∷◌, length, refl, sym, subst, inl, inr, arith}
-use Rattle.sqlite_format.specs.Cell.{cell_child}
+use Rattle.std.proofs.Common.{ℕ, zero, suc, false, true, List, [], ◌∷◌, sym, subst, inl, inr}
 use Rattle.sqlite_btree.specs.Items.{Form}
 use Rattle.sqlite_btree.specs.Part.{Part}
 use Rattle.sqlite_btree.specs.Tree.{EachChild, IsNode, IsTop, IsTree, Reaches, SomeChild, cells_of, child_at, child_of, right_of}

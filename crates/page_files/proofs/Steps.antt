@@ -1,5 +1,5 @@
 -- What each step of a transaction keeps.
-use Rattle.std.proofs.Common.{◌≡◌, ◌⊎◌, ℕ, ◌^◌, ◌<◌, List, IsTrue, refl, sym, ap, ap₂, subst, subst₂, ◌∙◌, inl, inr, arith, eq-eqb, ne_eqb}
+use Rattle.std.proofs.Common.{◌≡◌, ℕ, ◌^◌, ◌<◌, List, IsTrue, refl, sym, ap, ap₂, subst, subst₂, ◌∙◌, inl, inr, arith, eq-eqb, ne_eqb}
 use Rattle.std.proofs.lemmas.Bool.{cases_eq}
 use Rattle.std.proofs.Math.Path.{fun_ext}
 use Rattle.sqlite_disk.specs.declared.Disk.{Ghosts}
@@ -10,7 +10,7 @@ use Rattle.sqlite_pool.specs.Pool.{state, usable, version_of, IsClean}
 use Rattle.sqlite_pool.proofs.StateLemmas.{settled}
 use Rattle.sqlite_wal.proofs.LogLemmas.{SeenMayStay}
 use Rattle.sqlite_wal.proofs.StateLemmas.{open_from}
-use Rattle.sqlite_pool.specs.Stored.{Keeps, LeavesOnly, Recovers, RecoversAs}
+use Rattle.sqlite_pool.specs.Stored.{Keeps, Recovers, RecoversAs}
 use Rattle.sqlite_pool.specs.StoredLaws.{carried}
 use Rattle.sqlite_pool.specs.Commit.{MayCommitUsable}
 use Rattle.sqlite_wal.specs.Recovery.{AreWhole}

@@ -1,12 +1,10 @@
 -- The entries of sqlite_schema, taken one after another.
-use Rattle.std.proofs.Common.{◌≡◌, ℕ, ◌+◌, ◌-◌, ◌^◌, ◌<◌, min, Bool, true, false, cond, not, ◌||◌, List, [], ◌∷◌, ◌++◌, Option, None, Some, is_some, IfSome, IfOk, IsTrue, Result, Ok, Err, refl, sym, ap, subst, ◌∙◌, inr, arith}
+use Rattle.std.proofs.Common.{◌≡◌, ℕ, ◌+◌, ◌-◌, ◌^◌, min, Bool, true, false, cond, not, ◌||◌, List, [], ◌∷◌, ◌++◌, Option, None, Some, is_some, IfSome, Result, Ok, refl, sym, ap, ◌∙◌, arith}
 use Rattle.std.specs.List.{AllByRecursion, list_any}
 use Rattle.std.proofs.lemmas.List.Sums.{sum_by_push}
-use Rattle.sqlite_value.specs.declared.value.Value.TheVariants.{Text}
-use Rattle.sqlite_value.specs.Order.{Row, column}
-use Rattle.page_lists.specs.Alike.{MakeAlike}
-use Rattle.page_lists.specs.Entries.{count_of_ours, is_added, place_in_schema, AreAlone, AreCounted, AreOpened, AreOurs, IsCounted, IsFoundOf, IsMadeAs, IsOurs}
-use Rattle.page_lists.specs.Texts.{alone_in, our_text}
+use Rattle.sqlite_value.specs.Order.{Row}
+use Rattle.page_lists.specs.Entries.{count_of_ours, is_added, place_in_schema, AreCounted, AreOpened, IsCounted, IsFoundOf, IsMadeAs, IsOurs}
+use Rattle.page_lists.specs.Texts.{alone_in}
 use Rattle.page_lists.specs.declared.texts.Found.{Found}
 use Rattle.page_lists.specs.declared.texts.Found.TheVariants.{Ours, OursWithMore, Others}
 

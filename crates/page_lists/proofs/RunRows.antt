@@ -1,5 +1,5 @@
 -- The rows of a run, in a table whose rows stand in the order of the runs.
-use Rattle.std.proofs.Common.{◌≡◌, ◌≤◌, ◌<◌, ℕ, ℤ, pos, ◌+ℤ◌, eqb, true, false, List, [], ◌∷◌, ◌++◌, map, filter, drop, Some, refl, sym, ap, ap₂, subst, ◌∙◌, inl, inr, arith, append_assoc, is_lt}
+use Rattle.std.proofs.Common.{◌≡◌, ◌≤◌, ◌<◌, ℕ, ℤ, pos, ◌+ℤ◌, false, List, [], ◌∷◌, ◌++◌, map, filter, drop, Some, refl, sym, ap, ap₂, subst, ◌∙◌, inl, inr, arith, append_assoc, is_lt}
 use Rattle.std.specs.List.{AllByRecursion}
 use Rattle.std.proofs.lemmas.Bool.{cases_Bool}
 use Rattle.std.proofs.lemmas.Bool.Decides.{nat_tests}

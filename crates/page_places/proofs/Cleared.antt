@@ -1,19 +1,14 @@
 -- A run is the baseline of groups no more: one group after another.
-use Rattle.std.proofs.Common.{◌≡◌, ℕ, ℤ, List, [], ◌∷◌, map, Bool, true, false, if◌then◌else◌, Option, Some, None, refl, sym, ap, ap₂, inl, inr, ◌∙◌}
+use Rattle.std.proofs.Common.{◌≡◌, ℕ, ℤ, List, [], ◌∷◌, map, Bool, true, false, if◌then◌else◌, refl, sym, ap, ap₂, inl, inr, ◌∙◌}
 use Rattle.std.specs.List.{list_any}
 use Rattle.std.proofs.lemmas.Bool.{or_parts}
-use Rattle.sqlite_value.specs.declared.value.Value.TheVariants.{Int, Null, Text}
-use Rattle.sqlite_trees.specs.Tree.{Trees, put_row}
-use Rattle.sqlite_sql.specs.Ops.{binary}
+use Rattle.sqlite_value.specs.declared.value.Value.TheVariants.{Int}
+use Rattle.sqlite_trees.specs.Tree.{Trees}
 use Rattle.sqlite_rules.specs.Lists.{Has}
-use Rattle.sql_tables.proofs.Rows.{numbers_equal}
-use Rattle.plain_tables.specs.Changes.{has_baseline, is_baseline, is_named, unbased}
+use Rattle.plain_tables.specs.Changes.{has_baseline, is_named, unbased}
 use Rattle.plain_tables.specs.Tables.{Tables, GroupRow}
-use Rattle.store_schema.specs.Seen.{is_at}
-use Rattle.store_schema.specs.Tables.{Holds, group_columns, number, number_or_null}
-use Rattle.page_places.specs.TableChanges.{SparesBut}
+use Rattle.store_schema.specs.Tables.{Holds, group_columns}
 use Rattle.page_places.specs.Unused.{cleared}
-use Rattle.page_places.proofs.Edits.{group_edited}
 use Rattle.page_places.proofs.OneLine.{one_of_name}
 
 -- groups without the run as their baseline are as they were

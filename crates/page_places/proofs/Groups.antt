@@ -1,5 +1,5 @@
 -- The groups: one behind the others, one taken out, and their baselines replaced.
-use Rattle.std.proofs.Common.{◌≡◌, ◌≢◌, ℕ, ℤ, List, [], ◌∷◌, ◌++◌, map, filter, Bool, true, false, not, ◌||◌, if◌then◌else◌, bytes_eq, codes, Option, Some, None, refl, sym, ap, subst, ◌∙◌}
+use Rattle.std.proofs.Common.{◌≡◌, ◌≢◌, ℕ, ℤ, List, [], ◌∷◌, ◌++◌, map, filter, Bool, true, false, not, ◌||◌, bytes_eq, codes, Option, Some, None, refl, sym, ap, subst, ◌∙◌}
 use Rattle.std.specs.List.{AllByRecursion, list_any}
 use Rattle.std.proofs.lemmas.Bool.{and_from, both_ways, false_from_ne_true, not_from_false, or_left}
 use Rattle.std.proofs.lemmas.Slice.Eq.{bytes_eq-Decides}
@@ -18,7 +18,7 @@ use Rattle.sqlite_rules.proofs.ListLemmas.{all_from, has_kept, some_from, some_h
 use Rattle.sqlite_rules.proofs.ProbeLemmas.{has_mapped}
 use Rattle.sql_tables.proofs.Deletes.{row_of}
 use Rattle.sql_tables.proofs.Rows.{id_of}
-use Rattle.plain_tables.specs.Changes.{has_baseline, has_group, has_run, is_named, rebased, unbased, with_baseline, with_group}
+use Rattle.plain_tables.specs.Changes.{has_group, has_run, is_named, with_group}
 use Rattle.plain_tables.specs.Tables.{Tables, GroupRow, MemberRow}
 use Rattle.store_schema.specs.Schema.{schema_two, to, run_at, grp_at, member_at}
 use Rattle.store_schema.specs.Tables.{Holds, contents_of, group_columns, member_columns, number_or_null}
@@ -27,7 +27,7 @@ use Rattle.page_places.specs.Keys.{AreNew}
 use Rattle.page_places.proofs.Behind.{sound_behind}
 use Rattle.page_places.proofs.Contents.{Lined, contain_changed, content_of, line_of, lined_append, lined_content, lined_filter, lined_map}
 use Rattle.page_places.proofs.Keys.{agrees_at, none_clash, text_is}
-use Rattle.page_places.proofs.References.{group_refers, member_refers}
+use Rattle.page_places.proofs.References.{member_refers}
 use Rattle.page_places.proofs.Replaced.{sound_replaced}
 use Rattle.page_places.proofs.Store.{alone_from, baseline_key, baseline_of, group_parent, groups_lined, groups_there, members_lined, one_of, other_stays, run_parent, runs_there}
 use Rattle.page_places.proofs.TakenOut.{sound_filtered}

@@ -17,7 +17,7 @@ use Rattle.sqlite_rules.specs.Lists.{Has}
 use Rattle.sqlite_rules.specs.Steps.{PassAlone}
 use Rattle.sqlite_rules.proofs.ListLemmas.{all_from, some_from}
 use Rattle.sql_tables.proofs.Deletes.{row_of}
-use Rattle.plain_tables.specs.Changes.{has_name, next_name, with_new_name, with_next, with_run}
+use Rattle.plain_tables.specs.Changes.{with_next, with_run}
 use Rattle.plain_tables.proofs.Lists.{all-append}
 use Rattle.plain_tables.specs.Tables.{Tables, RunRow, NameRow}
 use Rattle.store_schema.specs.Schema.{schema_two, meta_at, run_at, name_at}

@@ -16,14 +16,13 @@ use Rattle.sqlite_rules.specs.Lists.{Has}
 use Rattle.sqlite_rules.proofs.ListLemmas.{has_got}
 use Rattle.sqlite_rules.proofs.RuleLemmas.{keeps_at}
 use Rattle.sql_tables.proofs.Rows.{id_of, numbers_equal, own_id, texts_equal}
-use Rattle.plain_tables.specs.Changes.{has_run, is_member, is_named, rebased, with_baseline, without_group, without_member}
+use Rattle.plain_tables.specs.Changes.{has_run, is_member, is_named, rebased, with_baseline, without_member}
 use Rattle.plain_tables.specs.Tables.{Tables, GroupRow, MemberRow}
 use Rattle.store_schema.specs.Schema.{schema_two, grp_at, member_at}
 use Rattle.store_schema.specs.Tables.{Holds, group_columns, member_columns, number_or_null}
 use Rattle.page_places.specs.TableChanges.{OnlyChanges}
 use Rattle.page_places.proofs.Contents.{row_of_line}
 use Rattle.page_places.proofs.Groups.{baseline_in, group_taken_out, groups_replaced, name_of}
-use Rattle.page_places.proofs.Lines.{none_left}
 use Rattle.page_places.proofs.Members.{member_taken_out}
 use Rattle.page_places.proofs.OneRow.{one_key, one_row, put_over, put_replaces, same_truth}
 use Rattle.page_places.proofs.References.{group_refers}

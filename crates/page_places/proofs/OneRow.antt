@@ -1,5 +1,5 @@
 -- One row of a table, known by its rowid: it alone has its key; to put a row over it replaces it.
-use Rattle.std.proofs.Common.{◌≡◌, ℕ, ℤ, List, [], ◌∷◌, ◌++◌, map, Bool, true, false, ◌&&◌, if◌then◌else◌, is_eq, Ordering, Less, Equal, Greater, Some, refl, sym, ap, ap₂, inl, inr, ◌∙◌}
+use Rattle.std.proofs.Common.{◌≡◌, ℕ, ℤ, List, [], ◌∷◌, map, Bool, true, false, ◌&&◌, if◌then◌else◌, is_eq, Ordering, Less, Equal, Greater, Some, refl, sym, ap, ap₂, inl, inr, ◌∙◌}
 use Rattle.std.specs.List.{AllByRecursion}
 use Rattle.std.specs.Ordering.{is_ne, match_ordering}
 use Rattle.std.proofs.lemmas.Bool.{and_from, both_ways}
@@ -13,11 +13,10 @@ use Rattle.sqlite_trees.specs.View.{IsShaped}
 use Rattle.sqlite_trees.specs.declared.store.Shape.TheVariants as shape
 use Rattle.sqlite_sql.specs.Ops.{binary, from_truth, is_true}
 use Rattle.sqlite_schema.specs.Rules.{agree, clashes, differ}
-use Rattle.sqlite_rules.specs.Edit.{next_rowid}
 use Rattle.sqlite_rules.specs.Lists.{Has}
 use Rattle.sqlite_rules.proofs.ListLemmas.{all_has, some_from}
 use Rattle.sqlite_rules.proofs.PlaceLemmas.{row_at_is}
-use Rattle.sql_tables.proofs.Rows.{Numbered, below_next, id_is, id_of, own_id, put_last}
+use Rattle.sql_tables.proofs.Rows.{Numbered, id_is, id_of, own_id}
 
 pub same_truth : (a b : Bool) → (a ≡ true → b ≡ true) → (b ≡ true → a ≡ true) → a ≡ b
 same_truth true true h k = refl

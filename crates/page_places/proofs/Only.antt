@@ -1,5 +1,5 @@
 -- A change of a table's tree and of its indexes' is a change of that table alone.
-use Rattle.std.proofs.Common.{◌≡◌, ℕ, List, [], ◌∷◌, Bool, true, false, not, ◌&&◌, ◌||◌, ◌==◌, refl, sym, subst, ◌∙◌, inl, inr}
+use Rattle.std.proofs.Common.{◌≡◌, ℕ, List, [], ◌∷◌, Bool, true, false, not, ◌&&◌, ◌||◌, ◌==◌, refl, sym, subst, inl, inr}
 use Rattle.std.specs.List.{AllByRecursion, list_all, list_any}
 use Rattle.std.proofs.lemmas.Bool.{and_parts, eqb-true, not-true, or_cases}
 use Rattle.sqlite_trees.specs.Objects.{catalog_tree}
@@ -10,7 +10,7 @@ use Rattle.sqlite_schema.specs.declared.schema.Schema.{Schema}
 use Rattle.sqlite_schema.specs.declared.schema.Table.{Table}
 use Rattle.sqlite_rules.proofs.ListLemmas.{all_from, all_has, test_has}
 use Rattle.sqlite_catalog.specs.Listing.{IsSound}
-use Rattle.store_schema.specs.Schema.{schema_two, meta_at, run_at, run_event_at, derived_at, coef_at, name_at, arc_at, stack_at, grp_at, member_at, thread_cell_at}
+use Rattle.store_schema.specs.Schema.{schema_two, run_event_at, derived_at, coef_at, name_at, arc_at, stack_at, thread_cell_at}
 use Rattle.page_places.specs.TableChanges.{OnlyChanges, SparesBut, Where}
 use Rattle.page_places.proofs.TakenOut.{where_true}
 

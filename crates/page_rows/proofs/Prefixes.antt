@@ -1,17 +1,15 @@
 -- The entries of an index that begin with a key stand together, and a walk from the key on begins with them.
-use Rattle.std.proofs.Common.{◌≡◌, ◌⊎◌, ℕ, ℤ, suc, ◌+◌, arith, take, true, false, List, [], ◌∷◌, filter, take_while, refl, sym, ap, ◌∙◌, inl, inr, Ordering, Less, Equal, Greater, is_lt, is_gt, is_eq, int_cmp}
+use Rattle.std.proofs.Common.{◌≡◌, ◌⊎◌, ℕ, suc, ◌+◌, arith, take, true, false, List, [], ◌∷◌, filter, take_while, refl, sym, ap, ◌∙◌, inl, inr, Ordering, Less, Equal, Greater, is_lt, is_gt, is_eq}
 use Rattle.std.proofs.lemmas.Bool.{cases_Bool, true≢false}
 use Rattle.std.proofs.lemmas.Cmp.{tied_itself}
-use Rattle.std.proofs.lemmas.Int.{ints}
 use Rattle.std.specs.List.{AllByRecursion}
 use Rattle.sqlite_value.specs.declared.value.Value.{Value}
 use Rattle.sqlite_value.specs.declared.keys.Order.{Order}
 use Rattle.sqlite_value.specs.Keys.{by_key, entry_cmp, first_key, later, prefix_cmp}
 use Rattle.sqlite_value.specs.Order.{Row}
-use Rattle.sqlite_value.specs.declared.value.Value.TheVariants.{Int}
-use Rattle.sqlite_value.proofs.KeyLemmas.{by_key_total, tied_no_text}
-use Rattle.sqlite_value.proofs.OrderLemmas.{then-Equal, value_cmp-Int}
-use Rattle.sqlite_trees.specs.Tree.{IsIndex, from_key}
+use Rattle.sqlite_value.proofs.KeyLemmas.{by_key_total}
+use Rattle.sqlite_value.proofs.OrderLemmas.{then-Equal}
+use Rattle.sqlite_trees.specs.Tree.{IsIndex}
 use Rattle.sqlite_trees.proofs.TreeLemmas.{prefix_cmp_follows}
 use Rattle.page_rows.specs.Indexes.{begins_with, from_entry}
 

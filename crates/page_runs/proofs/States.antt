@@ -14,7 +14,7 @@ use Rattle.sqlite_pool.specs.Stored.{Keeps, RecoversAs}
 use Rattle.sqlite_store.specs.declared.catalog.Wanted.{Wanted}
 use Rattle.sqlite_trees.specs.Tree.{Trees}
 use Rattle.plain_tables.specs.Tables.{Tables}
-use Rattle.run_stores.specs.Calls.{Asked, Changed}
+use Rattle.run_stores.specs.Calls.{Asked}
 use Rattle.page_files.specs.Files as files
 use Rattle.page_files.specs.Files.{IsUsable, OnlyReads, page_size, pages_of}
 use Rattle.page_files.specs.Held.{Rests}

@@ -20,7 +20,7 @@ use Rattle.page_runs.specs.Kept.{AreKept}
 use Rattle.page_lists.specs.Shown.{ShowsLines, ShowsRows}
 use Rattle.page_lists.proofs.RunRows.{shown_in_order}
 use Rattle.page_lists.proofs.Rooting.{tables_show}
-use Rattle.page_runs.specs.States.{AreRowsInOrder, ReadsAs, Represents, SaysRows, ShowsTables}
+use Rattle.page_runs.specs.States.{ReadsAs, Represents, SaysRows, ShowsTables}
 use Rattle.page_runs.specs.declared.store.PageRuns.{PageRuns}
 
 -- rows that tables hold in the order of the runs are said so

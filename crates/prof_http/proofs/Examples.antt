@@ -7,7 +7,6 @@ use Rattle.percent_encoding.specs.Percent.{percent_decode}
 use Rattle.cg_text.specs.declared.faults.Fault.TheVariants as faults
 use Rattle.profile_records.specs.declared.kinds.Kind.TheVariants as kind
 use Rattle.cost_rows.specs.declared.keys.Key.TheVariants as key
-use Rattle.report_texts.specs.declared.call_sides.CallSide.TheVariants as side
 use Rattle.byte_io.specs.Outcomes.{Outcome, Gave}
 use Rattle.histories.specs.Formats.{today}
 use Rattle.histories.specs.History as history

@@ -1,5 +1,5 @@
 -- Rows that are added one after another: what is held, and what it sums to.
-use Rattle.std.proofs.Common.{◌≡◌, ℕ, ◌+◌, ◌≤◌, ◌<◌, ◌^◌, Bool, true, false, if◌then◌else◌, List, [], ◌∷◌, ◌++◌, length, drop, slice_index_or, fold, sum_by, IsPermutation, inl, refl, sym, ap, subst, ◌∙◌, arith, drop-cons, add-one}
+use Rattle.std.proofs.Common.{◌≡◌, ℕ, ◌+◌, ◌≤◌, ◌<◌, Bool, true, false, if◌then◌else◌, List, [], ◌∷◌, ◌++◌, length, drop, slice_index_or, fold, sum_by, IsPermutation, inl, refl, sym, ap, subst, ◌∙◌, arith, drop-cons, add-one}
 use Rattle.std.specs.Borrow.{Bor}
 use Rattle.std.proofs.lemmas.Grind.{fold-append}
 use Rattle.std.proofs.lemmas.List.{append-nil}
@@ -16,7 +16,7 @@ use Rattle.cost_reports.proofs.PairLemmas.{total_with}
 use Rattle.report_texts.specs.Calls.{Calls, CallsOfFunction, asked, calls_of_row, other, sum_of, with_calls}
 use Rattle.report_texts.specs.Functions.{is_one_function}
 use Rattle.report_texts.specs.Inclusive.{functions_in, names_costs, row_costs}
-use Rattle.report_texts.specs.Pairs.{AreBelow, firsts_of, pair_total, pairs_with, seconds_of}
+use Rattle.report_texts.specs.Pairs.{AreBelow, firsts_of, pairs_with, seconds_of}
 use Rattle.report_texts.specs.declared.cuts.Cut.{Cut}
 use Rattle.report_texts.specs.declared.pairs.Pair.{Pair}
 use Rattle.prof_library.specs.Given.{calls_in, cost_of, plain_stacks}

@@ -1,6 +1,6 @@
 -- What is asked of any database changes nothing, and what the answer makes of an opening.
 use Rattle.std.proofs.Common.{◌≡◌, ◌≢◌, ◌⊎◌, ◌∙◌, ℕ, List, [], ◌∷◌, codes, pos, Bool, true, false, Result, Ok, Err, IsTrue, inl, inr, refl, sym, ap, subst}
-use Rattle.std.specs.Result.{is_ok, OnOk, IfErr}
+use Rattle.std.specs.Result.{is_ok, IfErr}
 use Rattle.sqlite_value.specs.declared.value.Value.{Value}
 use Rattle.sqlite_value.specs.declared.value.Value.TheVariants.{Int}
 use Rattle.sqlite_value.specs.Order.{Row, column}

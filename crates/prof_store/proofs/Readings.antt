@@ -1,32 +1,12 @@
 -- Rows beside the lines as which they are read: what a test and a query show of the one and of the other.
-use Rattle.std.proofs.Common.{◌≡◌, ℕ, suc, ◌≤◌, ◌<◌, ◌^◌, ℤ, pos, negsuc, List, [], ◌∷◌, map, drop, filter, length, Bool, true, false, ◌||◌, cond, eqb, bytes_eq, refl, sym, ap, ap₂, subst, subst₂, ◌∙◌, arith, inl, inr, IsPermutation, is_eq}
-use Rattle.std.specs.List.{AllZip, list_any}
-use Rattle.std.specs.Ordering.{int_cmp}
-use Rattle.std.specs.declared.cmp.Ordering.{Ordering}
-use Rattle.std.specs.declared.cmp.Ordering.TheVariants.{Less, Equal, Greater}
-use Rattle.std.specs.Prelude.{Some}
-use Rattle.std.proofs.lemmas.Bool.Decides.{nat_tests}
-use Rattle.std.proofs.lemmas.Int.{ints}
-use Rattle.std.proofs.lemmas.List.Sorted.{IsPermutation-map}
-use Rattle.sqlite_value.specs.declared.value.Value.{Value}
-use Rattle.sqlite_value.specs.declared.value.Value.TheVariants.{Null, Int, Real, Text, Blob}
-use Rattle.sqlite_value.specs.declared.keys.Collation.TheVariants.{Binary}
-use Rattle.sqlite_value.specs.Order.{Row, column, value_cmp}
-use Rattle.sqlite_value.proofs.OrderLemmas.{value_cmp-Int}
-use Rattle.sqlite_trees.specs.Tree.{Trees, IsTable}
-use Rattle.sqlite_trees.specs.View.{IsShaped}
-use Rattle.sqlite_trees.specs.declared.store.Shape.TheVariants as shape
-use Rattle.sqlite_sql.specs.Ops.{binary, is_true, is_null, from_truth}
-use Rattle.sqlite_sql.specs.declared.ops.BinaryOp.TheVariants.{Compare}
-use Rattle.sqlite_sql.specs.declared.ops.CompareOp.TheVariants.{Eq}
-use Rattle.sqlite_rules.specs.Lists.{Has}
+use Rattle.std.proofs.Common.{◌≡◌, ℕ, ◌≤◌, ◌^◌, List, [], ◌∷◌, map, drop, ap}
+use Rattle.std.specs.List.{AllZip}
+use Rattle.sqlite_value.specs.Order.{Row, column}
+use Rattle.sqlite_trees.specs.Tree.{Trees}
 use Rattle.sqlite_schema.specs.declared.schema.Table.{Table}
-use Rattle.store_schema.specs.Schema.{meta_at, run_at, run_event_at, derived_at, coef_at, name_at, thread_cell_at, arc_at, stack_at, grp_at, member_at}
-use Rattle.sql_tables.proofs.Rows.{numbers_equal, texts_equal}
-use Rattle.store_schema.proofs.Values.{blobs_equal}
-use Rattle.store_schema.specs.Seen.{is_at}
+use Rattle.store_schema.specs.Schema.{meta_at, run_at, run_event_at, derived_at, coef_at, thread_cell_at, arc_at, stack_at, grp_at, member_at}
 use Rattle.plain_tables.specs.Tables.{Tables}
-use Rattle.store_schema.specs.Tables.{meta_columns, run_columns, event_columns, derived_columns, coef_columns, name_columns, cell_columns, arc_columns, stack_columns, group_columns, member_columns, number}
+use Rattle.store_schema.specs.Tables.{meta_columns, run_columns, event_columns, derived_columns, coef_columns, cell_columns, arc_columns, stack_columns, group_columns, member_columns}
 use Rattle.prof_store.specs.Readings.{as_read, row_read, IsSaidBy, Says, SaysBehind}
 
 -- ---- values

@@ -1,38 +1,19 @@
 -- What is found in rows tells of the lines as which they are read, and lines that tables hold are such.
-use Rattle.std.proofs.Common.{◌≡◌, ℕ, ◌<◌, ◌^◌, ◌+◌, ◌&&◌, ◌==◌, pos, List, [], ◌∷◌, map, drop, filter, length, Bool, bytes_eq, inl, inr, sum, refl, sym, ap, ap₂, subst, ◌∙◌, arith, IsPermutation, sum_by, Option, Some, None}
-use Rattle.std.specs.List.{AllByRecursion, list_any}
-use Rattle.std.proofs.lemmas.List.Elements.{All-head, All-tail}
-use Rattle.std.proofs.lemmas.List.Sums.{sum-map}
+use Rattle.std.proofs.Common.{◌≡◌, ℕ, ◌^◌, ◌+◌, List, [], ◌∷◌, map, drop, refl, ap, ap₂, ◌∙◌, arith, Option, Some, None}
+use Rattle.std.specs.List.{AllByRecursion}
 use Rattle.sqlite_keyed.proofs.ListLemmas.{map-map}
 use Rattle.sqlite_value.specs.declared.value.Value.{Value}
-use Rattle.sqlite_value.specs.declared.value.Value.TheVariants.{Int, Text, Blob}
+use Rattle.sqlite_value.specs.declared.value.Value.TheVariants.{Text, Blob}
 use Rattle.sqlite_value.specs.Order.{Row, column}
-use Rattle.sqlite_trees.specs.Tree.{Trees, IsTable}
+use Rattle.sqlite_trees.specs.Tree.{Trees}
 use Rattle.sqlite_schema.specs.declared.schema.Table.{Table}
-use Rattle.sqlite_rules.specs.Lists.{Has}
-use Rattle.sqlite_rules.proofs.ProbeLemmas.{mapped_has}
-use Rattle.sql_tables.specs.States.{Rests}
-use Rattle.sql_tables.proofs.Calls.{rests_as}
-use Rattle.sql_tables.proofs.InPlace.{map_table}
-use Rattle.sql_tables.proofs.Orders.{same_permuted, seen_columns}
+use Rattle.sql_tables.proofs.Orders.{seen_columns}
 use Rattle.sql_tables.proofs.Rows.{Numbered}
-use Rattle.sqlite.specs.State.{State}
-use Rattle.plain_tables.specs.Changes.{has_run, has_group, has_member, is_member, is_named}
-use Rattle.store_schema.specs.Schema.{schema_two, meta_at, run_at, run_event_at, derived_at, coef_at, name_at, thread_cell_at, arc_at, stack_at, grp_at, member_at}
-use Rattle.store_schema.specs.Seen.{is_at, run_seen, group_seen, member_seen, is_member_row}
-use Rattle.plain_tables.specs.Tables.{Tables, RunRow, EventRow, GroupRow, MemberRow}
-use Rattle.store_schema.specs.Tables.{Holds, meta_columns, run_columns, event_columns, derived_columns, coef_columns, name_columns, cell_columns, arc_columns, stack_columns, group_columns, member_columns, number, number_or_null, text_or_null}
-use Rattle.run_stores.specs.Totals.{held_self, held_calls, held_count}
-use Rattle.prof_store.specs.Digests.{IsRowOf}
-use Rattle.run_stores.specs.Lookups.{IsRunOf}
-use Rattle.prof_store.specs.Groups.{AreGroupsIn, AreMembersIn}
-use Rattle.prof_store.specs.Readings.{as_read, row_read, IsSaidBy, RowsSay, Says, SaysBehind}
-use Rattle.prof_store.specs.Totals.{number_in, IsNumber, HasNumbers, IsSum, IsSumAt, IsSumIn, rows_named}
-use Rattle.prof_store.specs.declared.totals.EventSums.{EventSums}
-use Rattle.prof_store.proofs.HeldSums.{sum_by-map, sum_by-same}
-use Rattle.prof_store.proofs.Listing.{read_back, group_back, group_read, member_back, member_read}
-use Rattle.prof_store.proofs.Members.{kit_has, plain_has}
-use Rattle.prof_store.proofs.Readings.{values_read, blob_read, number_at, text_at, blob_at, any_said, picked_said, seen_said, line_of_row, row_of_line, length_said, permutes_read, meta_said, runs_rise, runs_said, event_entries, groups_said, members_said}
+use Rattle.store_schema.specs.Schema.{meta_at, run_at, run_event_at, derived_at, coef_at, name_at, thread_cell_at, arc_at, stack_at, grp_at, member_at}
+use Rattle.plain_tables.specs.Tables.{Tables, EventRow, GroupRow}
+use Rattle.store_schema.specs.Tables.{Holds, run_columns, event_columns, derived_columns, coef_columns, name_columns, cell_columns, arc_columns, stack_columns, group_columns, member_columns, number, number_or_null, text_or_null}
+use Rattle.prof_store.specs.Readings.{as_read, row_read, IsSaidBy, RowsSay}
+use Rattle.prof_store.proofs.Readings.{values_read}
 
 -- ---- sums
 

@@ -9,7 +9,7 @@ use Rattle.sqlite.specs.declared.error.Error.{Error}
 use Rattle.sqlite.specs.declared.error.Error.TheVariants.{SqlInputError, QueryReturnedNoRows}
 use Rattle.sqlite.specs.Effect.{Database}
 use Rattle.sqlite.specs.Held.{Held, state}
-use Rattle.sqlite.specs.State.{State, HasCleanDisk, QueriesRow}
+use Rattle.sqlite.specs.State.{State, QueriesRow}
 use Rattle.sql_tables.specs.Calls.{Asked, IsAsBefore, IsSettled, KeepsIfShut, Stays}
 use Rattle.sql_tables.specs.States.{LeavesOnly, Rests}
 use Rattle.store_schema.specs.declared.errors.OpenError.{OpenError}

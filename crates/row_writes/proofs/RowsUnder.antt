@@ -1,5 +1,5 @@
 -- Rows whose first column is a number, and their entries.
-use Rattle.std.proofs.Common.{◌≡◌, ◌≢◌, ℕ, ℤ, zero, suc, ◌+◌, pos, Bool, true, false, not, List, [], ◌∷◌, ◌++◌, map, filter, fold, take, drop, length, get_or, ◌<◌, take_all, append-nil, take_while, refl, sym, ap, ap₂, subst, ◌∙◌, inl, inr, arith, IsPermutation, is_eq}
+use Rattle.std.proofs.Common.{◌≡◌, ℕ, ℤ, zero, suc, ◌+◌, pos, Bool, not, List, [], ◌∷◌, ◌++◌, map, filter, fold, take, drop, length, get_or, ◌<◌, take_all, append-nil, take_while, refl, sym, ap, subst, ◌∙◌, inl, inr, arith, IsPermutation, is_eq}
 use Rattle.std.proofs.lemmas.Bool.{cases_Bool}
 use Rattle.std.proofs.lemmas.Grind.{fold-append}
 use Rattle.std.proofs.lemmas.List.{drop_all}

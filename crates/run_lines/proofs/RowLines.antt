@@ -1,22 +1,16 @@
 -- The lines that a file's rows become, row by row.
-use Rattle.std.proofs.Common.{◌≡◌, ℕ, suc, ◌+◌, List, [], ◌∷◌, ◌++◌, map, flat_map, length, nat_lt, if◌then◌else◌, Bool, true, false, Option, refl, ap, ap₂, ◌∙◌}
+use Rattle.std.proofs.Common.{◌≡◌, ℕ, ◌+◌, List, [], ◌∷◌, ◌++◌, map, flat_map, length, nat_lt, if◌then◌else◌, Bool, true, false, Option, refl, ap}
 use Rattle.std.specs.Borrow.{Bor}
 use Rattle.std.specs.Iterator.{Drains}
 use Rattle.std.proofs.lemmas.Iterator.{YieldsList, items_from_drains}
-use Rattle.cost_rows.specs.declared.places.CellPlace.{CellPlace}
 use Rattle.cost_rows.specs.declared.places.Call.{Call}
-use Rattle.cost_rows.specs.Calls.{Calls}
-use Rattle.cost_rows.specs.declared.rows.CellRow.{CellRow}
-use Rattle.cost_rows.specs.declared.rows.ArcRow.{ArcRow}
 use Rattle.cost_rows.specs.declared.rows.StackRow.{StackRow}
-use Rattle.cost_rows.specs.ByNumber.{numbered_at, numbered_cells, numbered_calls, plain_numbered}
 use Rattle.cost_rows.specs.Plain.{plain_stack}
 use Rattle.cost_rows.specs.Walks.{counted_stacks}
-use Rattle.std.proofs.lemmas.List.{map-append}
 use Rattle.cost_rows.proofs.AboveLemmas.{above-more}
-use Rattle.plain_tables.specs.Tables.{StoredCall, StoredStack}
-use Rattle.run_stores.specs.Files.{cell_row_of, cell_rows_at, cell_rows, call_row_of, call_rows_from, call_rows_at, call_rows, stack_rows}
-use Rattle.run_lines.specs.FromRows.{line_of_cell, line_of_stack, row_lines}
+use Rattle.plain_tables.specs.Tables.{StoredStack}
+use Rattle.run_stores.specs.Files.{call_row_of, call_rows_from, call_rows, stack_rows}
+use Rattle.run_lines.specs.FromRows.{line_of_stack}
 
 -- a part more
 pub parts_more : (run : ℕ) (numbers : List ℕ) (c : Call) (part : ℕ) (costs : List ℕ) (cost : ℕ)

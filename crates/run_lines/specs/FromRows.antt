@@ -1,5 +1,5 @@
 -- The parts of a file's rows, names by the file's own numbers, and the lines that they become.
-use Rattle.std.specs.Prelude.{ℕ, nat_lt, if◌then◌else◌, List, [], ◌∷◌}
+use Rattle.std.specs.Prelude.{ℕ, List}
 use Rattle.std.specs.Borrow.{Bor}
 use Rattle.cost_rows.specs.declared.places.CellPlace.{CellPlace}
 use Rattle.cost_rows.specs.declared.places.Call.{Call}
@@ -7,8 +7,8 @@ use Rattle.cost_rows.specs.Calls.{Calls}
 use Rattle.cost_rows.specs.declared.rows.CellRow.{CellRow}
 use Rattle.cost_rows.specs.declared.rows.ArcRow.{ArcRow}
 use Rattle.cost_rows.specs.declared.rows.StackRow.{StackRow}
-use Rattle.plain_tables.specs.Tables.{StoredCell, StoredCall, StoredStack}
-use Rattle.run_stores.specs.Files.{cell_row_of, call_row_of, call_rows_at}
+use Rattle.plain_tables.specs.Tables.{StoredCall, StoredStack}
+use Rattle.run_stores.specs.Files.{call_rows_at}
 
 abbrev pub place_of_cell : CellRow ℕ → CellPlace
 place_of_cell r = record { place = record { object = r.object; file = r.file; function = r.function; line = r.line }; thread = r.thread }

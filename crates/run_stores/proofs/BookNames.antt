@@ -1,8 +1,8 @@
 -- Names found by their numbers, while further names come.
-use Rattle.std.proofs.Common.{◌≡◌, inl, inr, ℕ, ◌<◌, List, [], ◌∷◌, ◌++◌, map, Bool, true, false, ◌||◌, ◌==◌, bytes_eq, if◌then◌else◌, refl, sym, ap, subst, ◌∙◌, arith, eqb, append_assoc, append-nil}
+use Rattle.std.proofs.Common.{◌≡◌, inl, inr, ℕ, ◌<◌, List, [], ◌∷◌, ◌++◌, Bool, true, false, ◌||◌, ◌==◌, bytes_eq, if◌then◌else◌, refl, sym, ap, subst, ◌∙◌, arith, eqb, append_assoc, append-nil}
 use Rattle.std.proofs.lemmas.Bool.Decides.{nat_tests}
 use Rattle.std.proofs.lemmas.Slice.Eq.{bytes_eq-Decides}
-use Rattle.std.specs.List.{AllByRecursion, list_any}
+use Rattle.std.specs.List.{list_any}
 use Rattle.plain_tables.specs.Lists.{Has, IsAscending}
 use Rattle.plain_tables.proofs.Lists.{all_has}
 use Rattle.plain_tables.specs.Tables.{Tables, NameRow}

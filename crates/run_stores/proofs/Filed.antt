@@ -1,5 +1,5 @@
 -- A file that is inserted is in the book.
-use Rattle.std.proofs.Common.{◌≡◌, ℕ, suc, List, [], ◌∷◌, nat_lt, if◌then◌else◌, Bool, true, false, refl}
+use Rattle.std.proofs.Common.{◌≡◌, ℕ, suc, List, [], ◌∷◌, refl}
 use Rattle.std.specs.List.{AllByRecursion}
 use Rattle.plain_tables.proofs.Lists.{all-append}
 use Rattle.cg_formulas.specs.declared.heads.FileHead.{FileHead}

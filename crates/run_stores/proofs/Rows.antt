@@ -15,8 +15,8 @@ use Rattle.cost_rows.specs.declared.rows.CellRow.{CellRow}
 use Rattle.cost_rows.proofs.AboveLemmas.{all-above, map-above}
 use Rattle.plain_tables.specs.Tables.{NameRow, StoredCell, StoredCall, StoredStack}
 use Rattle.plain_tables.specs.Files.{number_in}
-use Rattle.run_stores.specs.Book.{name_of, cell_held, part_held, CallPart, part_of, parts_from, parts_of, stack_held, IsHeld, CellIsNamed, CallIsNamed}
-use Rattle.run_stores.specs.Files.{numbered, cell_row_of, cell_rows_at, cell_rows, call_row_of, call_rows_from, call_rows_at, call_rows, stack_rows}
+use Rattle.run_stores.specs.Book.{name_of, cell_held, part_held, CallPart, part_of, parts_of, stack_held, IsHeld, CellIsNamed, CallIsNamed}
+use Rattle.run_stores.specs.Files.{numbered, cell_row_of, cell_rows_at, cell_rows, call_row_of, call_rows_at, call_rows, stack_rows}
 use Rattle.run_stores.proofs.BookNames.{Rising, name_back, number_held}
 
 -- a name that the tables have

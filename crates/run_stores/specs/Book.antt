@@ -1,5 +1,5 @@
 -- What is held, with names in place of their numbers.
-use Rattle.std.specs.Prelude.{◌≡◌, ℕ, suc, nat_lt, not, ◌==◌, if◌then◌else◌, List, [], ◌∷◌, ◌++◌, map, filter, flat_map}
+use Rattle.std.specs.Prelude.{◌≡◌, ℕ, suc, not, ◌==◌, if◌then◌else◌, List, [], ◌∷◌, ◌++◌, map, filter, flat_map}
 use Rattle.std.specs.List.{AllByRecursion, list_any}
 use Rattle.std.specs.Bool.{IsTrue}
 use Rattle.cost_rows.specs.Above.{rows_above}

@@ -1,24 +1,20 @@
 -- Calls one after another, and what each kind of statement is.
-use Rattle.std.proofs.Common.{refl, Option, None, ◌≡◌, ◌≤◌, ◌⊎◌, inl, inr, ℕ, List, Bool, true, false, Ok, Err, Result, IsTrue, sym, ap, subst, ◌∙◌, arith}
-use Rattle.std.specs.Result.{is_ok, IsErr}
+use Rattle.std.proofs.Common.{refl, Option, None, ◌≡◌, ◌≤◌, ◌⊎◌, inl, inr, ℕ, List, Bool, true, Ok, IsTrue, sym, ap, subst, ◌∙◌, arith}
 use Rattle.sqlite_disk.specs.Disk.{MoreFaults}
 use Rattle.sqlite_value.specs.Order.{Row}
 use Rattle.sqlite_trees.specs.Tree.{Trees}
 use Rattle.sqlite_schema.specs.declared.schema.Schema.{Schema}
-use Rattle.sqlite.specs.declared.error.Error.{Error}
-use Rattle.sqlite.specs.declared.error.Error.TheVariants.{QueryReturnedNoRows}
 use Rattle.sqlite_schema.specs.declared.command.Command.{Command}
 use Rattle.sqlite.specs.Effect.{Database, IsDatabase}
 use Rattle.sqlite.specs.Does.{Tally, Does}
 use Rattle.sqlite.specs.Calls.{IsWrite}
 use Rattle.sqlite.specs.Listing.{understood}
-use Rattle.sqlite.specs.State.{State, HasCleanDisk, IsUnchanged, IsRolledBack, Survives, Executes, CommitsBy, Shown, QueriesRow, FailsToQuery, CommitsShowing}
+use Rattle.sqlite.specs.State.{State, HasCleanDisk, IsUnchanged, IsRolledBack, Survives, CommitsBy, CommitsShowing}
 use Rattle.sqlite.proofs.Callers.{IsPlain, command_of}
 use Rattle.sql_tables.specs.States.{Rests}
-use Rattle.sql_tables.specs.Calls.{IsSettled, IsAsBefore, Stays, Asked, Changed, KeepsIfShut}
-use Rattle.sql_tables.proofs.Opens.{WasOpen, WritesText, was_open_if_kept, shown_open, fails_was_open, row_open, no_row_open, no_row_unchanged, row_was_open, ran_open}
-use Rattle.sql_tables.proofs.Statements.{plain_mode, refused, done as write_done, crash as write_crash}
-use Rattle.sql_tables.proofs.Queries.{shown_keeps, failed_keeps, row_keeps, row_unchanged, commits_nothing}
+use Rattle.sql_tables.specs.Calls.{IsSettled, IsAsBefore, Stays, Asked}
+use Rattle.sql_tables.proofs.Opens.{WasOpen}
+use Rattle.sql_tables.proofs.Statements.{plain_mode}
 
 -- ---- faults
 

@@ -1,33 +1,18 @@
 -- DELETE from a table to which nothing refers.
-use Rattle.std.proofs.Common.{◌≡◌, ℕ, List, [], ◌∷◌, map, drop, filter, slice_get, is_some, Bool, true, false, not, if◌then◌else◌, Some, None, Option, Ok, refl, sym, ap, subst, ◌∙◌}
+use Rattle.std.proofs.Common.{◌≡◌, ℕ, List, [], ◌∷◌, slice_get, is_some, true, if◌then◌else◌, Some, None, Option, Ok}
 use Rattle.sqlite_value.specs.declared.value.Value.{Value}
-use Rattle.sqlite_value.specs.declared.value.Value.TheVariants.{Null}
 use Rattle.sqlite_value.specs.Order.{Row}
 use Rattle.sqlite_trees.specs.Tree.{Trees}
-use Rattle.sqlite_trees.specs.declared.store.Shape.TheVariants as shape
-use Rattle.sqlite_trees.proofs.TreeLemmas.{IsShaped-filter}
 use Rattle.sqlite_sql.specs.Term.{Term, col}
-use Rattle.sqlite_sql.specs.Program.{IsProgramAnswer, overlay}
-use Rattle.sqlite_sql.specs.Query.{IsAnswer}
-use Rattle.sqlite_schema.specs.declared.schema.Keys.TheVariants.{Enforced}
+use Rattle.sqlite_sql.specs.Program.{overlay}
 use Rattle.sqlite_schema.specs.declared.schema.Table.{Table}
 use Rattle.sqlite_schema.specs.declared.schema.Schema.{Schema}
 use Rattle.sqlite_schema.specs.declared.command.Command.TheVariants.{Delete}
-use Rattle.sqlite_rules.specs.declared.error.Rowids.TheVariants.{Given}
-use Rattle.sqlite_rules.specs.Probe.{AreFound}
-use Rattle.sqlite_rules.specs.Action.{works}
-use Rattle.sqlite_rules.specs.Calls.{ids_of}
-use Rattle.sqlite_rules.specs.Edit.{edit_of}
-use Rattle.sqlite_rules.proofs.ProbeLemmas.{rowid_query, found_rowids}
-use Rattle.sqlite_catalog.specs.Listing.{IsSound}
 use Rattle.sqlite.specs.Effect.{Database, IsDatabase}
 use Rattle.sqlite.specs.Does.{Tally, Does}
-use Rattle.sqlite.proofs.Callers.{one_step}
-use Rattle.sql_tables.specs.Contents.{IsContent, Contain, content_at, with_content, stands_alone}
+use Rattle.sql_tables.specs.Contents.{Contain, stands_alone}
 use Rattle.sql_tables.specs.Queries.{scan, only}
-use Rattle.sql_tables.proofs.Contents.{content_changed, content_there}
-use Rattle.sql_tables.proofs.Effects.{deletes, plainly}
-use Rattle.sql_tables.proofs.Rows.{passes, found_picks, left_by_picks, filter_columns}
+use Rattle.sql_tables.proofs.Effects.{plainly}
 use Rattle.sql_tables.proofs.Statements.{plain_mode}
 
 -- the rows of a table as its entries have them

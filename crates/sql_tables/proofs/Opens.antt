@@ -1,41 +1,13 @@
 -- A call that answers finds the connection open and leaves it so, and no call opens a connection that is shut, whatever its schema.
-use Rattle.std.proofs.Common.{◌≡◌, ◌⊎◌, inl, inr, ℕ, ◌+◌, List, [], Bool, true, false, if◌then◌else◌, ◌==◌, length, Option, None, Some, Ok, Err, Result, IsTrue, sym, subst}
-use Rattle.std.specs.Bool.{⊤}
-use Rattle.std.specs.Result.{IfOk}
-use Rattle.std.proofs.lemmas.Bool.{cases_Bool}
+use Rattle.std.proofs.Common.{◌≡◌, ◌⊎◌, inl, inr, ℕ, List, Option, None, Some, Ok, Err, Result, IsTrue, sym, subst}
 use Rattle.sqlite_value.specs.Order.{Row}
-use Rattle.sqlite_ast.specs.declared.Conflict.TheVariants as conflict
-use Rattle.sqlite_ast.specs.declared.Expr.{Expr}
-use Rattle.sqlite_ast.specs.declared.Rows.{Rows as Values}
-use Rattle.sqlite_ast.specs.declared.Upsert.{Upsert}
-use Rattle.sqlite_ast.specs.declared.Statement.{Statement}
-use Rattle.sqlite_ast.specs.declared.Statement.TheVariants as written
-use Rattle.sqlite_syntax.specs.declared.statement.Parsed.{Parsed}
 use Rattle.sqlite_trees.specs.declared.error.StoreError.{StoreError}
-use Rattle.sqlite_schema.specs.declared.schema.Schema.{Schema}
-use Rattle.sqlite_schema.specs.declared.schema.Table.{Table}
-use Rattle.sqlite_schema.specs.declared.command.Command.{Command}
-use Rattle.sqlite_schema.specs.declared.command.Command.TheVariants.{Insert, InsertOr, Update, Delete, CreateTable, CreateIndex, DropTable, DropIndex, CreateView, DropView}
-use Rattle.sqlite_schema.specs.declared.command.Conflict.{Conflict}
-use Rattle.sqlite_schema.specs.declared.command.Conflict.TheVariants as how
 use Rattle.sqlite_schema.specs.declared.command.Returning.{Returning}
-use Rattle.sqlite_resolve.specs.declared.compiled.Compiled.{Compiled}
-use Rattle.sqlite_resolve.specs.Lowering.{Checked, and_then}
-use Rattle.sqlite_resolve.specs.declared.error.CompileError.TheVariants.{NoSuchTable}
-use Rattle.sqlite_resolve.specs.Scope.{Name}
-use Rattle.sqlite_resolve.specs.Body.{table_at}
-use Rattle.sqlite_resolve.specs.Program.{program}
-use Rattle.sqlite_resolve.specs.Write.{updated, deleted}
-use Rattle.sqlite_resolve.specs.Given.{upserts}
-use Rattle.sqlite_resolve.specs.Compile.{first, compiled, planned, meaning, with_command, command, returning, timed as timed_in, small, insert, insert_or, insert_or_abort, update, delete, on_table, target, new_rows}
+use Rattle.sqlite_resolve.specs.Compile.{returning}
 use Rattle.sqlite.specs.declared.error.Error.{Error}
 use Rattle.sqlite.specs.declared.error.Error.TheVariants.{QueryReturnedNoRows}
-use Rattle.sqlite.specs.Calls.{IsWrite}
 use Rattle.sqlite.specs.Clock.{timed}
-use Rattle.sqlite.specs.Listing.{understood, reads_listing, if_select, is_select, listing_schema}
-use Rattle.sqlite.specs.State.{State, Runs, IsUnchanged, IsRolledBack, Executes, ExecutesIn, IsNotRun, QueriesRow, Shown, ShowsRows, FailsToQuery, FailsToShow, shows_rows, text_of, store_error}
-use Rattle.sqlite.proofs.Callers.{IsPlain}
-use Rattle.sql_tables.proofs.Queries.{shown_keeps}
+use Rattle.sqlite.specs.State.{State, IsUnchanged, IsRolledBack, IsNotRun, QueriesRow, Shown, ShowsRows, FailsToQuery, FailsToShow, store_error}
 use Rattle.sql_tables.proofs.Failures.{IsFailure, failure_of}
 
 -- the connection was open and is

@@ -1,18 +1,13 @@
 -- Rows that rise, and what an answer shows of all rows.
-use Rattle.std.proofs.Common.{◌≡◌, ℕ, suc, ◌+◌, ◌<◌, List, [], ◌∷◌, length, map, drop, filter, Bool, true, false, cond, get_or, sym, ap, ap₂, subst, subst₂, ◌∙◌, refl, arith}
+use Rattle.std.proofs.Common.{◌≡◌, ℕ, suc, ◌+◌, ◌<◌, List, [], ◌∷◌, length, map, drop, true, false, get_or, ap, ap₂, subst, ◌∙◌, refl, arith}
 use Rattle.std.specs.List.{AllByRecursion, AllAdjacentBelow}
-use Rattle.std.specs.Prelude.{IsPermutation}
-use Rattle.std.proofs.lemmas.List.Sorted.{IsPermutation-map, IsPermutation-sym}
-use Rattle.sqlite_trees.specs.Tree.{IsAscending, IsTable}
+use Rattle.sqlite_trees.specs.Tree.{IsAscending}
 use Rattle.sqlite_value.specs.declared.value.Value.{Value}
 use Rattle.sqlite_value.specs.Order.{Row}
 use Rattle.sqlite_value.specs.declared.keys.Key.{Key}
-use Rattle.sqlite_sql.specs.Term.{Term, Env}
-use Rattle.sqlite_sql.specs.Query.{Output, output}
-use Rattle.sqlite_keyed.proofs.ListLemmas.{map-map}
-use Rattle.sql_tables.proofs.InPlace.{same_rows}
-use Rattle.sql_tables.proofs.Queries.{Selects, sorted_scan, has_permuted}
-use Rattle.sql_tables.proofs.Rows.{passes, Numbered}
+use Rattle.sqlite_sql.specs.Term.{Term}
+use Rattle.sql_tables.proofs.Queries.{Selects}
+use Rattle.sql_tables.proofs.Rows.{Numbered}
 
 module _ {X : Type 0} (n : X → ℕ) where
   abbrev Rises : List X → Type 0

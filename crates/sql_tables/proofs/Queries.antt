@@ -1,9 +1,8 @@
 -- A query on one table, and what it leaves.
 use Rattle.sqlite_schema.specs.declared.schema.Schema.{Schema}
-use Rattle.sql_tables.proofs.Returning.{commits_none, plain_has_none}
 use Rattle.sql_tables.proofs.Rows.{passes}
 use Rattle.sql_tables.specs.Queries.{scan}
-use Rattle.std.proofs.Common.{◌≡◌, ◌⊎◌, inl, inr, ℕ, List, [], ◌∷◌, ◌++◌, map, filter, flat_map, Bool, true, false, cond, Ok, Err, Option, Some, None, Result, refl, sym, ap, subst, ◌∙◌}
+use Rattle.std.proofs.Common.{◌≡◌, ◌⊎◌, inl, inr, ℕ, List, [], ◌∷◌, ◌++◌, map, filter, flat_map, Bool, true, false, cond, Err, Option, Some, None, refl, sym, ap, subst, ◌∙◌}
 use Rattle.std.specs.List.{list_all}
 use Rattle.std.specs.Prelude.{IsPermutation, IsSorted}
 use Rattle.sqlite_trees.proofs.ListLemmas.{all-permutation}
@@ -20,9 +19,8 @@ use Rattle.sqlite.specs.declared.error.Error.{Error}
 use Rattle.sqlite.specs.Listing.{understood}
 use Rattle.sqlite_schema.specs.declared.command.Returning.{Returning}
 use Rattle.sqlite.specs.Clock.{timed}
-use Rattle.sqlite.specs.State.{FailsToShow, State, IsUnchanged, IsRolledBack, FailsToQuery, QueriesRow, Shown, IsNotRun, Survives, CommitsShowing}
+use Rattle.sqlite.specs.State.{FailsToShow, State, IsUnchanged, IsRolledBack, FailsToQuery, IsNotRun}
 use Rattle.sqlite.proofs.Callers.{IsPlain}
-use Rattle.sqlite.proofs.StateLemmas.{survives_weaker}
 
 module _ (schema : Schema) (sql : List ℕ) (params : Row) (old new : State) (has : old.now.schema ≡ schema) (plain : IsPlain (understood schema sql)) where
 

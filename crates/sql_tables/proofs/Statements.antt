@@ -1,6 +1,5 @@
 -- One statement that writes, by itself or in a transaction: from what it makes of the rows to the guarantees of a call.
-use Rattle.std.proofs.Common.{◌≡◌, ◌⊎◌, inl, inr, ℕ, List, false, if◌then◌else◌, Option, None, Ok, Err, Result, IsTrue, sym, ap, subst, subst₂, ◌∙◌, append-nil}
-use Rattle.std.proofs.lemmas.Bool.{cases_Bool}
+use Rattle.std.proofs.Common.{◌≡◌, inl, inr, ℕ, List, false, Option, None, Ok, Err, Result, subst}
 use Rattle.sqlite_value.specs.Order.{Row}
 use Rattle.sqlite_trees.specs.Tree.{Trees}
 use Rattle.sqlite_schema.specs.declared.schema.Schema.{Schema}
@@ -13,10 +12,9 @@ use Rattle.sqlite.specs.Effect.{Database, IsDatabase}
 use Rattle.sqlite.specs.Does.{Tally, Does}
 use Rattle.sqlite.specs.Calls.{IsWrite}
 use Rattle.sqlite.specs.Listing.{understood}
-use Rattle.sqlite.specs.State.{State, mode_of, Survives, Runs, Writes, IsUnchanged, IsRolledBack, Executes, ExecutesIn, IsNotRun, CommitsBy, ExecutesInside, MayWrite, shows_rows, text_of}
+use Rattle.sqlite.specs.State.{State, Runs, Writes, Executes, ExecutesIn, ExecutesInside}
 use Rattle.sqlite.proofs.Callers.{IsPlain, command_of, statement_of, runs_as}
-use Rattle.sqlite.proofs.StateLemmas.{survives_weaker}
-use Rattle.sql_tables.specs.States.{Rests, Works, KeepsCommit}
+use Rattle.sql_tables.specs.States.{Works, KeepsCommit}
 
 abbrev pub plain_mode : Mode
 plain_mode = record { keys = Enforced; in_doubt = false; may_wait = false }

@@ -1,17 +1,10 @@
 -- The steps of a walk, and what it tells.
-use Rattle.std.proofs.Common.{◌≡◌, inl, inr, ℕ, suc, pos, ◌≤◌, List, [], ◌∷◌, ◌++◌, map, drop, filter, Bool, true, false, cond, not, ◌&&◌, refl, sym, ap, ap₂, ◌∙◌, append_assoc, append-nil}
-use Rattle.std.specs.List.{AllByRecursion}
-use Rattle.std.proofs.lemmas.Bool.{cases_Bool}
+use Rattle.std.proofs.Common.{◌≡◌, List, ◌∷◌, map, drop, Bool, true, ap}
 use Rattle.sqlite_value.specs.declared.value.Value.{Value}
-use Rattle.sqlite_value.specs.declared.value.Value.TheVariants.{Int}
 use Rattle.sqlite_value.specs.Order.{Row, column}
 use Rattle.sqlite_trees.specs.View.{IsShaped}
 use Rattle.sqlite_trees.specs.declared.store.Shape.TheVariants as shape
-use Rattle.sqlite_rules.specs.Lists.{Has}
-use Rattle.sqlite_rules.proofs.ListLemmas.{all_has}
-use Rattle.sql_tables.specs.Walks.{Asked, is_asked, is_above, is_left, in_window, said, in_page, read_from, counted, Lie, Reads, HasReadAll}
-use Rattle.sql_tables.proofs.Rows.{Numbered, map-append, filter_same_on}
-use Rattle.sql_tables.proofs.Splits.{split, row_within, row_lower}
+use Rattle.sql_tables.specs.Walks.{Asked, is_asked, said}
 
 -- a page's row says what the table's row says
 module _ (r : Row) where

@@ -1,13 +1,11 @@
 -- A walk over some rows of a table, in the order of their rowids, one window of rowids at a time.
-use Rattle.std.specs.Prelude.{◌≡◌, ℕ, suc, pos, ◌&&◌, ◌≤◌, Bool, true, false, List, [], ◌∷◌, ◌++◌, map, filter}
+use Rattle.std.specs.Prelude.{ℕ, pos, ◌&&◌, Bool, true, List, ◌∷◌, map}
 use Rattle.sqlite_value.specs.declared.keys.Collation.TheVariants.{Binary}
 use Rattle.sqlite_value.specs.declared.value.Value.TheVariants.{Int}
 use Rattle.sqlite_value.specs.Order.{Row, column}
-use Rattle.sqlite_trees.specs.Tree.{rowid}
 use Rattle.sqlite_sql.specs.declared.ops.BinaryOp.TheVariants.{Compare}
 use Rattle.sqlite_sql.specs.declared.ops.CompareOp.TheVariants.{Eq, Gt, Le}
 use Rattle.sqlite_sql.specs.Ops.{binary, is_true}
-use Rattle.sqlite_rules.specs.Lists.{Has}
 
 -- ---- the tests of WHERE
 

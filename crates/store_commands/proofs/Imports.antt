@@ -1,12 +1,11 @@
 -- What is expected for a file that was read to its end.
-use Rattle.std.proofs.Common.{◌≡◌, ℕ, Bool, true, false, nat_le, if◌then◌else◌, List, [], ◌∷◌, length, Option, Some, None, Result, Ok, Err, option_map, refl, sym, ap, ap₂, subst, ◌∙◌}
+use Rattle.std.proofs.Common.{◌≡◌, ℕ, Bool, true, false, nat_le, List, [], ◌∷◌, length, Option, Some, None, Result, Ok, Err, option_map, refl, sym, ap, ap₂, subst, ◌∙◌}
 use Rattle.sha2.specs.Sha256.{sha256}
 use Rattle.cg_text.specs.declared.faults.Fault as faults
 use Rattle.cg_formulas.specs.declared.heads.FileHead.{FileHead}
 use Rattle.cost_rows.specs.Admit.{overflow_of}
 use Rattle.cost_rows.specs.Content.{Content}
 use Rattle.cost_rows.specs.Totals.{AreTotals}
-use Rattle.cost_rows.specs.declared.rows.FileTotals.{FileTotals}
 use Rattle.plain_tables.specs.Sound.{AreSound}
 use Rattle.plain_tables.specs.Tables.{Tables}
 use Rattle.run_stores.specs.Totals.{IsHeldIn}

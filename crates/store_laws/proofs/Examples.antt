@@ -1,5 +1,5 @@
 -- The definitions, computed on histories.
-use Rattle.std.proofs.Common.{◌≡◌, ℕ, ◌<◌, List, [], ◌∷◌, codes, None, refl, arith}
+use Rattle.std.proofs.Common.{ℕ, List, [], ◌∷◌, codes, refl, arith}
 use Rattle.std.proofs.lemmas.List.Sorted.{length_permutation}
 use Rattle.profile_records.specs.declared.kinds.Kind.{Kind}
 use Rattle.profile_records.specs.declared.kinds.Kind.TheVariants.{Callgrind, Folded}

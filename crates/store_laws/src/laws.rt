@@ -22,8 +22,6 @@ ghost use Rattle.histories.specs.History.{History};
 ghost use Rattle.histories.specs.Marks.{IsMarked};
 ghost use Rattle.histories.specs.Representation.{TablesRepresent};
 ghost use Rattle.histories.specs.Answered.{HasHistory, RepresentsHistory};
-ghost use Rattle.sql_runs.specs.States.{state_of};
-ghost use Rattle.sql_runs.specs.declared.store.SqlRuns.{SqlRuns};
 ghost use Rattle.store_laws.specs.First.{RepresentsFirst, AgreesEither};
 
 use prof_store::what_stands_survives;

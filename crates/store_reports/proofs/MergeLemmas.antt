@@ -1,18 +1,13 @@
 -- Cells of runs that are merged one after another.
-use Rattle.std.proofs.Common.{◌≡◌, ℕ, ◌*◌, Bool, true, false, if◌then◌else◌, nat_eq, List, [], ◌∷◌, ◌++◌, map, fold, Result, Ok, Err, IfOk, refl, sym, ap, ap₂, ◌∙◌, arith}
+use Rattle.std.proofs.Common.{◌≡◌, ℕ, ◌*◌, List, [], ◌∷◌, ◌++◌, map, fold, Result, Ok, Err, IfOk, refl, sym, ap, ap₂, ◌∙◌, arith}
 use Rattle.std.specs.Prelude.{unwrap_or}
 use Rattle.std.proofs.lemmas.Grind.{fold-append}
 use Rattle.std.proofs.lemmas.List.{map-append}
-use Rattle.cost_rows.specs.KeySums.{Sums, sums_by, sums_with, with_row}
-use Rattle.cost_rows.specs.Keys.{part_of, place_of_row}
-use Rattle.cost_rows.specs.Sums.{Spot}
+use Rattle.cost_rows.specs.KeySums.{Sums, sums_by}
 use Rattle.cost_rows.specs.declared.rows.CellRow.{CellRow}
 use Rattle.cost_rows.specs.declared.keys.Key.{Key}
 use Rattle.report_texts.specs.Costs.{all_rows, weighted}
-use Rattle.report_texts.specs.KeyReports.{report_of}
-use Rattle.report_texts.specs.KeyTexts.{key_report_text}
-use Rattle.report_texts.specs.declared.cuts.Cut.{Cut}
-use Rattle.run_stores.specs.Book.{cell_held, cells_held}
+use Rattle.run_stores.specs.Book.{cell_held}
 use Rattle.plain_tables.specs.RunRows.{cells_in}
 use Rattle.plain_tables.specs.Tables.{Tables, StoredCell, NameRow}
 use Rattle.run_stores.specs.Names.{named_cell}

@@ -1,17 +1,9 @@
 -- What the texts that read find in the tables.
-use Rattle.std.proofs.Common.{◌≡◌, ◌≢◌, ℕ, List, [], ◌∷◌, codes, pos, true, false, Ok, inl, inr, refl, sym, ap, subst, ◌∙◌}
-use Rattle.std.proofs.lemmas.Slice.Eq.{bytes_eq-Decides}
-use Rattle.sqlite_value.specs.declared.value.Value.{Value}
-use Rattle.sqlite_value.specs.declared.value.Value.TheVariants.{Null, Int, Real, Text, Blob}
-use Rattle.sqlite_value.specs.declared.keys.Collation.TheVariants.{Binary}
-use Rattle.sqlite_value.specs.Order.{Row, column, value_cmp}
+use Rattle.std.proofs.Common.{◌≡◌, ℕ, List, [], ◌∷◌, codes, false, Ok, inl, refl, ap, subst}
+use Rattle.sqlite_value.specs.Order.{Row, column}
 use Rattle.sqlite_trees.specs.Tree.{Trees}
-use Rattle.sqlite_tied.proofs.RuleLemmas.{and_true}
-use Rattle.sqlite_sql.specs.Ops.{binary, is_true}
-use Rattle.sqlite_sql.specs.declared.ops.BinaryOp.TheVariants.{Compare}
-use Rattle.sqlite_sql.specs.declared.ops.CompareOp.TheVariants.{Eq}
 use Rattle.sqlite_rules.specs.Lists.{Has}
-use Rattle.sqlite_rules.proofs.ProbeLemmas.{has_mapped, mapped_has}
+use Rattle.sqlite_rules.proofs.ProbeLemmas.{has_mapped}
 use Rattle.sqlite_schema.specs.declared.schema.Schema.{Schema}
 use Rattle.sqlite_schema.specs.declared.command.Command.TheVariants.{Select}
 use Rattle.sqlite.specs.Listing.{understood, reads_listing}
@@ -19,14 +11,12 @@ use Rattle.sqlite.specs.State.{State, QueriesRow, Shown}
 use Rattle.sqlite.proofs.Callers.{IsPlain, command_of}
 use Rattle.sql_tables.specs.Queries.{only}
 use Rattle.sql_tables.proofs.Queries.{shown_row, row_shown, sorted_scan}
-use Rattle.sql_tables.proofs.Rows.{passes}
 use Rattle.sql_tables.proofs.Selects.{selected, selected_first}
 use Rattle.store_schema.specs.Schema.{schema_one, schema_two}
 use Rattle.plain_tables.specs.Tables.{Tables, RunRow}
-use Rattle.store_schema.specs.Tables.{Holds, meta_columns, run_columns}
-use Rattle.store_schema.specs.Texts.{next_sql, schema_sql, by_digest_sql}
-use Rattle.store_schema.proofs.Values.{blobs_equal}
-use Rattle.store_schema.proofs.Means.{next_terms, next_shown, next_order, next_means, next_plain, next_unlisted, schema_terms, schema_shown, schema_order, schema_means, schema_plain, schema_unlisted, first_schema_means, first_schema_plain, first_schema_unlisted, by_digest_terms, by_digest_shown, by_digest_order, by_digest_means, by_digest_plain, by_digest_unlisted}
+use Rattle.store_schema.specs.Tables.{Holds, run_columns}
+use Rattle.store_schema.specs.Texts.{schema_sql}
+use Rattle.store_schema.proofs.Means.{schema_terms, schema_shown, schema_order, schema_means, schema_plain, schema_unlisted, first_schema_means, first_schema_plain, first_schema_unlisted}
 
 -- ---- the one row of meta
 

@@ -1,19 +1,17 @@
 -- What the texts mean, computed.
-use Rattle.std.proofs.Common.{◌≡◌, ℕ, List, [], ◌∷◌, false, codes, pos, refl}
+use Rattle.std.proofs.Common.{◌≡◌, List, [], ◌∷◌, false, codes, pos, refl}
 use Rattle.sqlite_value.specs.declared.keys.Key.{Key}
-use Rattle.sqlite_value.specs.declared.keys.Collation.TheVariants.{Binary}
 use Rattle.sqlite_value.specs.declared.value.Value.TheVariants.{Null, Int}
-use Rattle.sqlite_value.specs.Keys.{ascending}
 use Rattle.sqlite_sql.specs.Term.{Term, lit, col}
 use Rattle.sqlite_schema.specs.declared.command.Source.TheVariants.{Values}
-use Rattle.sqlite_schema.specs.declared.command.Command.TheVariants.{Select, Insert, Update, Delete}
+use Rattle.sqlite_schema.specs.declared.command.Command.TheVariants.{Select, Insert}
 use Rattle.sqlite.specs.Listing.{understood, reads_listing}
 use Rattle.sqlite.proofs.Callers.{IsPlain, command_of}
 use Rattle.sqlite_tied.specs.Compute.{everything}
-use Rattle.sql_tables.specs.Queries.{scan, only, is, count_query}
+use Rattle.sql_tables.specs.Queries.{scan, only, is}
 use Rattle.sql_tables.proofs.Queries.{sorted_scan}
 use Rattle.store_schema.specs.Schema.{schema_one, schema_two}
-use Rattle.store_schema.specs.Texts.{begin_sql, insert_run_sql, insert_event_sql, insert_derived_sql, insert_coef_sql, insert_name_sql, insert_cell_sql, insert_arc_sql, insert_stack_sql, insert_group_sql, insert_member_sql, raise_sql, set_baseline_sql, drop_run_sql, drop_group_sql, leave_sql, schema_sql, next_sql, by_digest_sql, runs_sql, call_counts_sql, kind_of_sql, events_of_sql, derived_of_sql, coefs_of_sql, sums_of_sql, names_sql, id_of_name_sql, groups_sql, members_sql, find_member_sql, find_group_sql, run_count_sql, group_count_sql}
+use Rattle.store_schema.specs.Texts.{begin_sql, schema_sql}
 
 abbrev pub begin_terms : List Term
 begin_terms = lit (Int (pos 1)) ∷ lit Null ∷ lit (Int (pos 2)) ∷ lit (Int (pos 1)) ∷ []

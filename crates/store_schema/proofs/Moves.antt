@@ -1,5 +1,5 @@
 -- The cells of version 1 go under thread 0, and the tables become those of version 2.
-use Rattle.std.proofs.Common.{◌≡◌, ℕ, ◌<◌, List, [], ◌∷◌, ◌++◌, map, length, ◌==◌, pos, Bool, true, false, None, Ok, Option, refl, sym, ap, ap₂, subst, ◌∙◌, arith}
+use Rattle.std.proofs.Common.{◌≡◌, ℕ, ◌<◌, List, [], ◌∷◌, ◌++◌, map, length, ◌==◌, pos, Bool, true, false, None, Ok, Option, refl, sym, ap, ap₂, subst, arith}
 use Rattle.std.specs.List.{AllByRecursion, flat_map, filter_map}
 use Rattle.std.proofs.lemmas.Bool.{ne_eqb}
 use Rattle.sqlite_value.specs.declared.keys.Collation.{Collation}

@@ -9,7 +9,6 @@ use Rattle.std.specs.declared.cmp.Ordering.TheVariants.{Less, Equal, Greater}
 use Rattle.std.specs.Ordering.{is_ne}
 use Rattle.sqlite_value.specs.Order.{Row, value_cmp, column}
 use Rattle.sqlite_value.specs.Keys.{first_key, plain}
-use Rattle.sqlite_value.specs.declared.value.Value.TheVariants.{Blob}
 use Rattle.sqlite_value.proofs.OrderLemmas.{value_cmp-Int}
 use Rattle.sqlite_trees.specs.Tree.{Trees}
 use Rattle.sqlite_sql.specs.Ops.{binary, is_true, from_truth}
@@ -17,19 +16,15 @@ use Rattle.sqlite_catalog.specs.Listing.{IsSound}
 use Rattle.sqlite_schema.specs.declared.schema.Constraint.TheVariants.{Unique}
 use Rattle.sqlite_schema.specs.Rules.{passes as obeys, clashes, differ, agree}
 use Rattle.sqlite_rules.specs.Lists.{Has}
-use Rattle.sqlite_rules.proofs.ListLemmas.{all_has, some_has, some_from}
-use Rattle.sqlite_rules.proofs.ProbeLemmas.{has_mapped, mapped_has}
+use Rattle.sqlite_rules.proofs.ListLemmas.{all_has, some_from}
+use Rattle.sqlite_rules.proofs.ProbeLemmas.{mapped_has}
 use Rattle.sqlite_tied.proofs.RuleLemmas.{and_true}
-use Rattle.sql_tables.proofs.Contents.{content_there}
-use Rattle.sql_tables.proofs.Rows.{passes}
-use Rattle.sql_tables.proofs.Queries.{Selects, shown_row, row_shown}
 use Rattle.store_schema.specs.Schema.{schema_two, name_at}
 use Rattle.plain_tables.specs.Tables.{Tables, NameRow}
 use Rattle.store_schema.specs.Names.{number_if_held}
-use Rattle.store_schema.specs.Tables.{Holds, contents_of, name_columns, number}
+use Rattle.store_schema.specs.Tables.{Holds, name_columns, number}
 use Rattle.plain_tables.specs.Changes.{has_name}
 use Rattle.plain_tables.specs.Files.{number_in}
-use Rattle.store_schema.proofs.Means.{id_of_name_terms, id_of_name_shown, id_of_name_order}
 use Rattle.store_schema.proofs.Values.{blobs_equal}
 
 -- SQL's <> on two numbers

@@ -1,27 +1,24 @@
 -- What each INSERT makes of the tables.
-use Rattle.std.proofs.Common.{◌≡◌, ℕ, suc, ◌<◌, pos, ◌+ℤ◌, List, [], ◌∷◌, ◌++◌, map, fold, None, Option, Ok, refl, sym, ap, subst, ◌∙◌, arith}
+use Rattle.std.proofs.Common.{◌≡◌, ℕ, suc, ◌<◌, pos, ◌+ℤ◌, List, [], ◌∷◌, map, fold, None, Option, Ok, refl, ap, ◌∙◌, arith}
 use Rattle.std.specs.List.{AllByRecursion}
 use Rattle.std.specs.declared.cmp.Ordering.TheVariants.{Less}
-use Rattle.sqlite_keyed.proofs.ListLemmas.{all-append}
-use Rattle.sqlite_value.specs.declared.value.Value.TheVariants.{Null, Int, Text, Blob}
+use Rattle.sqlite_value.specs.declared.value.Value.TheVariants.{Null}
 use Rattle.sqlite_value.specs.Order.{Row, value_cmp}
 use Rattle.sqlite_trees.specs.Tree.{Trees, rowid}
 use Rattle.sqlite_schema.specs.declared.command.Source.TheVariants.{Values}
 use Rattle.sqlite_schema.specs.declared.command.Command.TheVariants.{Insert}
 use Rattle.std.proofs.lemmas.Int.{ints}
-use Rattle.sqlite_rules.specs.Edit.{id_in, next_rowid}
+use Rattle.sqlite_rules.specs.Edit.{id_in}
 use Rattle.sqlite.specs.Effect.{Database, IsDatabase}
 use Rattle.sqlite.specs.Does.{Tally, Does}
-use Rattle.sql_tables.specs.Contents.{Contain, with_content, no_rows}
-use Rattle.sql_tables.proofs.Inserts.{inserts_rows, inserts_keyed, inserts_next}
-use Rattle.sql_tables.proofs.Rows.{map-append}
+use Rattle.sql_tables.specs.Contents.{Contain, no_rows}
+use Rattle.sql_tables.proofs.Inserts.{inserts_keyed}
 use Rattle.sql_tables.proofs.Statements.{plain_mode}
-use Rattle.store_schema.specs.Schema.{schema_two, meta_at, run_at, run_event_at, derived_at, coef_at, name_at, thread_cell_at, arc_at, stack_at, grp_at, member_at}
-use Rattle.plain_tables.specs.Tables.{Tables, RunRow, EventRow, DerivedRow, CoefRow, NameRow, StoredCell, StoredCall, StoredStack, GroupRow, MemberRow, new_tables}
-use Rattle.store_schema.specs.Tables.{Holds, contents_of, run_columns, event_columns, derived_columns, coef_columns, name_columns, cell_columns, arc_columns, stack_columns, group_columns, member_columns, number}
-use Rattle.plain_tables.specs.Changes.{with_run, with_events, with_derived, with_coefs, next_name, with_new_name, with_cells, with_calls, with_stacks, with_group, with_member}
-use Rattle.store_schema.proofs.Means.{begin_terms, insert_run_terms, insert_event_terms, insert_derived_terms, insert_coef_terms, insert_name_terms, insert_cell_terms, insert_arc_terms, insert_stack_terms, insert_group_terms, insert_member_terms}
-use Rattle.store_schema.proofs.Values.{cast_null, cast_number, cast_text_or_null, number_below}
+use Rattle.store_schema.specs.Schema.{schema_two, meta_at}
+use Rattle.plain_tables.specs.Tables.{Tables, RunRow, NameRow, new_tables}
+use Rattle.store_schema.specs.Tables.{Holds, run_columns, name_columns, number}
+use Rattle.store_schema.proofs.Means.{begin_terms}
+use Rattle.store_schema.proofs.Values.{cast_null, cast_number, number_below}
 
 pub next_is : (names : List NameRow) (n : ℕ) → fold (λ _ r. id_in (rowid r) +ℤ pos 1) (pos n) (map name_columns names) ≡ pos (fold (λ _ (line : NameRow). suc line.number) n names)
 next_is [] n = refl

@@ -1,19 +1,7 @@
 -- What a walk over the rows of a run tells of its lines.
-use Rattle.std.proofs.Common.{◌≡◌, ℕ, pos, eqb, List, ◌∷◌, ◌++◌, map, drop, Bool, true, refl, sym, ap, ◌∙◌}
-use Rattle.std.proofs.lemmas.Bool.{eqb-true}
-use Rattle.sqlite_value.specs.declared.value.Value.TheVariants.{Int}
-use Rattle.sqlite_value.specs.Order.{Row}
-use Rattle.sqlite_trees.specs.Tree.{Trees}
-use Rattle.sql_tables.specs.Contents.{IsContent}
-use Rattle.sql_tables.specs.Walks.{Reads, HasReadAll}
-use Rattle.sql_tables.proofs.Contents.{content_there}
-use Rattle.sql_tables.proofs.Rows.{numbers_equal}
-use Rattle.sql_tables.proofs.Walks.{told_begun, told_all}
-use Rattle.store_schema.specs.Schema.{schema_two, thread_cell_at, arc_at, stack_at}
-use Rattle.plain_tables.specs.Tables.{Tables, StoredCell, StoredCall, StoredStack}
-use Rattle.store_schema.specs.Tables.{Holds, contents_of, cell_columns, arc_columns, stack_columns}
-use Rattle.store_schema.specs.WalkTexts.{cells_of, calls_of, stacks_of}
-use Rattle.plain_tables.specs.RunRows.{cells_in, calls_in, stacks_in}
+use Rattle.std.proofs.Common.{◌≡◌, ap, ◌∙◌}
+use Rattle.plain_tables.specs.Tables.{StoredCell, StoredCall, StoredStack}
+use Rattle.store_schema.specs.Tables.{cell_columns, arc_columns, stack_columns}
 
 -- ---- cells
 

@@ -1,24 +1,13 @@
 -- Calls within a transaction, one after another.
-use Rattle.std.proofs.Common.{◌≡◌, ◌⊎◌, inl, inr, ℕ, List, Bool, true, false, IsTrue, if◌then◌else◌, Option, Some, None, Result, Ok, Err, refl, sym, ap, subst, ◌∙◌, arith}
-use Rattle.std.specs.Bool.{⊤}
-use Rattle.std.specs.Result.{is_ok, IsErr}
+use Rattle.std.proofs.Common.{◌≡◌, ℕ, List, Bool, IsTrue, Result, Ok, Err, sym, ◌∙◌}
+use Rattle.std.specs.Result.{is_ok}
 use Rattle.sqlite_value.specs.Order.{Row}
 use Rattle.sqlite_trees.specs.declared.store.Store.{Ghosts}
-use Rattle.sqlite_schema.specs.declared.command.Returning.{Returning}
 use Rattle.sqlite.specs.declared.error.Error.{Error}
 use Rattle.sqlite.specs.declared.transaction.Transaction.{Transaction}
-use Rattle.sqlite.specs.Clock.{timed}
-use Rattle.sqlite.specs.Listing.{understood}
-use Rattle.sqlite.specs.State.{State, Survives, ExecutesInside, IsUnchanged, IsRolledBack, IsNotRun, Shown, ShowsRows, FailsToQuery, FailsToShow, IsTooLate}
-use Rattle.sqlite.proofs.Callers.{IsPlain}
-use Rattle.sqlite.proofs.StateLemmas.{survives_then}
-use Rattle.sql_tables.specs.States.{Works, KeepsCommit}
-use Rattle.sql_tables.proofs.Queries.{shown_keeps}
-use Rattle.sql_tables.proofs.Statements.{inside_kept, inside_done, works_if_same}
-use Rattle.store_schema.specs.Schema.{schema_two}
+use Rattle.sqlite.specs.State.{State, Survives, ExecutesInside}
 use Rattle.plain_tables.specs.Tables.{Tables}
-use Rattle.store_schema.specs.Tables.{Holds}
-use Rattle.store_schema.specs.Within.{inside, IsFaithful, IsRunning, Sees, WritesIf, Writes, Asks, Ran, TextMakes}
+use Rattle.store_schema.specs.Within.{inside, IsFaithful, IsRunning, Ran, TextMakes}
 
 }
 

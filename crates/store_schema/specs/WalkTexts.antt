@@ -1,5 +1,5 @@
 -- The texts that read the lines of a run, a window of rowids at a time, from `cell`, `call` and `stack`.
-use Rattle.std.specs.Prelude.{ℕ, List, [], ◌∷◌, codes}
+use Rattle.std.specs.Prelude.{ℕ, [], ◌∷◌}
 use Rattle.sql_tables.specs.Walks.{Asked}
 
 -- ---- the rows of a run, and their columns behind its number

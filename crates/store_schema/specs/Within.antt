@@ -15,7 +15,7 @@ use Rattle.sqlite.specs.Held.{Held, state}
 use Rattle.sqlite.specs.Listing.{understood}
 use Rattle.sqlite.specs.State.{State, HasCleanDisk, Survives, ExecutesInside}
 use Rattle.sqlite.proofs.Callers.{IsPlain, command_of}
-use Rattle.sql_tables.specs.Calls.{Changed, KeepsIfShut}
+use Rattle.sql_tables.specs.Calls.{KeepsIfShut}
 use Rattle.sql_tables.specs.States.{Works, KeepsCommit}
 use Rattle.sql_tables.proofs.Statements.{plain_mode}
 use Rattle.store_schema.specs.Schema.{schema_two}

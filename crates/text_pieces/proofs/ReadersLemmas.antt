@@ -1,5 +1,5 @@
 -- What is told from the first line on.
-use Rattle.std.proofs.Common.{◌≡◌, ℕ, List, [], ◌++◌, fold, map, Result, Ok, Err, OnOk, OnErr, refl, sym, ◌∙◌, ap, subst}
+use Rattle.std.proofs.Common.{◌≡◌, ℕ, List, [], ◌++◌, fold, map, Result, Ok, Err, OnOk, OnErr, sym, ◌∙◌, ap, subst}
 use Rattle.std.proofs.lemmas.List.{append-nil}
 use Rattle.cg_text.specs.Lines.{lines_of}
 use Rattle.text_pieces.specs.Cut.{cut}

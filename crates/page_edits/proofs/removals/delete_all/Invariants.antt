@@ -1,4 +1,4 @@
-use Rattle.std.proofs.Common.{◌≡◌, ◌-◌, ◌≤◌, ℕ, List, length, take}
+use Rattle.std.proofs.Common.{◌-◌, ◌≤◌, ℕ, List, length, take}
 use Rattle.sqlite_pages.specs.Calls.{IsClean, Continues}
 use Rattle.sqlite_trees.specs.declared.store.Shape.TheVariants.{Table}
 use Rattle.sqlite_store.specs.declared.catalog.Wanted.{Wanted}

@@ -1,4 +1,4 @@
-use Rattle.std.proofs.Common.{◌≡◌, ◌+◌, ◌++◌, ℤ, pos, [], ◌∷◌, take, get_or, rules, to_z, of_z, w64, Ok, Err, Result, sym, ap, ◌∙◌, arith}
+use Rattle.std.proofs.Common.{◌≡◌, ◌+◌, ◌++◌, pos, [], ◌∷◌, take, get_or, rules, to_z, of_z, w64, Ok, Err, Result, sym, ap, ◌∙◌, arith}
 use Rattle.std.proofs.lemmas.List.{take_more}
 use Rattle.std.proofs.lemmas.Result.{IfOk-from_err, err_from_is_err_and}
 use Rattle.sqlite_pages.specs.declared.error.Error.{Error}

@@ -1,8 +1,7 @@
-use Rattle.std.proofs.Common.{◌≡◌, is_eq, true, false, sym, ap, subst, subst₂, ◌∙◌, arith}
+use Rattle.std.proofs.Common.{is_eq, true, false, sym, ap, subst, subst₂, ◌∙◌, arith}
 use Rattle.std.proofs.lemmas.Result.{err_from_is_err_and}
-use Rattle.sqlite_btree.specs.Batch.{IsBatchOf, IsFilled, TookFirst}
-use Rattle.sqlite_btree.specs.Cut.{from_cut}
-use Rattle.sqlite_btree.specs.Stored.{as_record, IsLaidIn}
+use Rattle.sqlite_btree.specs.Batch.{IsBatchOf, TookFirst}
+use Rattle.sqlite_btree.specs.Stored.{IsLaidIn}
 use Rattle.sqlite_btree.proofs.ViewLemmas.{ascends_records}
 use Rattle.sqlite_record.specs.Record.{decode}
 use Rattle.sqlite_store.specs.Db.{record_order}

@@ -1,4 +1,4 @@
-use Rattle.std.proofs.Common.{◌≡◌, arith}
+use Rattle.std.proofs.Common.{arith}
 use Rattle.page_edits.specs.Removals.{has_prefix, FailsToThin, LosesUntil}
 use Rattle.page_edits.proofs.Losing.{loses_more, where_ok}
 use Rattle.page_edits.proofs.Thinning.{part_next}

@@ -1,4 +1,4 @@
-use Rattle.std.proofs.Common.{◌≡◌, Bool, false, Ok, Err, Result, subst, arith}
+use Rattle.std.proofs.Common.{Bool, Ok, Err, Result, subst, arith}
 use Rattle.std.proofs.lemmas.Result.{err_from_is_err_and}
 use Rattle.sqlite_pages.specs.declared.error.Error.{Error}
 use Rattle.sqlite_btree.proofs.Results.{steps_none, steps_on}

@@ -1,8 +1,7 @@
-use Rattle.std.proofs.Common.{◌≡◌, true, length, get_or, [], sym, ap, subst, subst₂, ◌∙◌, arith}
+use Rattle.std.proofs.Common.{◌≡◌, true, get_or, [], sym, ap, subst, subst₂, ◌∙◌, arith}
 use Rattle.std.proofs.lemmas.Bool.{OnTrue_from}
 use Rattle.sqlite_format.specs.Cell.{IsBody, body_key, spilled_len}
 use Rattle.sqlite_format.specs.Payload.{IsPayloadOf}
-use Rattle.sqlite_btree.specs.Chain.{Entry}
 use Rattle.sqlite_btree.specs.Items.{body_of, item, item_in}
 use Rattle.sqlite_btree.specs.Tree.{cells_of}
 use Rattle.sqlite_btree.proofs.SearchLemmas.{node_item}

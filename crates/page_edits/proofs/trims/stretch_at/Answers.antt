@@ -1,4 +1,4 @@
-use Rattle.std.proofs.Common.{◌≡◌, ◌+◌, inl, inr, arith, true}
+use Rattle.std.proofs.Common.{arith}
 use Rattle.page_edits.proofs.trims.stretch_at.Goals as goal
 
 pub loop-i-init : goal.loop-i-init

@@ -3,14 +3,13 @@ use Rattle.std.proofs.lemmas.Bool.{OnTrue_at}
 use Rattle.std.proofs.lemmas.Result.{IfOk-from_err, err_from_is_err_and}
 use Rattle.sqlite_format.specs.Node.{node_cells}
 use Rattle.sqlite_format.specs.Page.{IsPage, page_cells}
-use Rattle.sqlite_btree.specs.Items.{kind_at}
 use Rattle.sqlite_btree.specs.Loaded.{IsNodeOf}
 use Rattle.sqlite_btree.specs.Part.{ChangesOwn, IsPartOf, with_page}
 use Rattle.sqlite_btree.specs.Stored.{form_of}
 use Rattle.sqlite_btree.specs.Tree.{IsNode, cells_of, header_of}
 use Rattle.sqlite_btree.proofs.Results.{of_memory, within_limit, steps_on}
 use Rattle.sqlite_btree.proofs.TreeLemmas.{node_live}
-use Rattle.page_edits.specs.Trims.{HasTrimmed, HoldsAlone, IsBelow}
+use Rattle.page_edits.specs.Trims.{HoldsAlone}
 use Rattle.page_edits.proofs.NewCells.{written_back}
 use Rattle.page_edits.proofs.Rewritten.{IsLeafOf}
 use Rattle.page_edits.proofs.Trimming.{each_in_range, none_trimmed, stored_trimmed}

@@ -1,5 +1,4 @@
-use Rattle.std.proofs.Common.{◌+◌, drop, arith, ◌∙◌}
-use Rattle.cost_rows.specs.KeySums.{total_of}
+use Rattle.std.proofs.Common.{arith, ◌∙◌}
 use Rattle.prof_library.proofs.Lemmas.{stack_added, stack_counted}
 use Rattle.prof_library.proofs.inclusives.add_stacks.Goals as goal
 

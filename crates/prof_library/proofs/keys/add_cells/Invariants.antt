@@ -1,4 +1,4 @@
-use Rattle.std.proofs.Common.{◌≡◌, ◌+◌, ◌<◌, ◌^◌, fold, drop}
+use Rattle.std.proofs.Common.{◌≡◌, ◌+◌, fold, drop}
 use Rattle.cost_rows.specs.KeySums.{total_of, with_row}
 use Rattle.prof_library.specs.Given.{cost_of, plain_cells}
 use Rattle.prof_library.proofs.keys.add_cells.Given as goal

@@ -1,10 +1,9 @@
-use Rattle.std.proofs.Common.{◌≡◌, ℕ, List, to_z-of_z, to_z, of_z, w64, inl, ◌∷◌, [], ◌++◌, length, get_or, map, filter, IsPermutation, refl, sym, ap, subst, subst₂, ◌∙◌, arith}
+use Rattle.std.proofs.Common.{◌≡◌, List, to_z-of_z, to_z, of_z, w64, inl, ◌∷◌, [], ◌++◌, length, map, filter, IsPermutation, refl, sym, ap, subst, subst₂, ◌∙◌, arith}
 use Rattle.std.proofs.lemmas.Bool.{eqb-false, eqb-true}
 use Rattle.std.proofs.lemmas.Result.{IfOk-from_err, err_from_is_err_and}
 use Rattle.std.specs.Prelude.{⊤}
 use Rattle.sqlite_pool.specs.StoredLaws.{Keeps-trans, Keeps-refl}
 use Rattle.std.specs.List.{AllByRecursion}
-use Rattle.sqlite_rules.specs.Edit.{without_all}
 use Rattle.sqlite_rules.specs.Lists.{Has}
 use Rattle.sqlite_rules.proofs.ListLemmas.{all_has}
 use Rattle.sqlite_schema.specs.declared.schema.Index.{Index}
@@ -15,11 +14,10 @@ use Rattle.sqlite_value.specs.Keys.{plain}
 use Rattle.sqlite_value.specs.Order.{Row}
 use Rattle.page_files.specs.Held.{Writes}
 use Rattle.page_files.specs.Trees.{trees_of}
-use Rattle.page_files.proofs.Causes.{fails_later, fails_to_read}
+use Rattle.page_files.proofs.Causes.{fails_later}
 use Rattle.page_files.proofs.Standing.{index_in, tree_in}
 use Rattle.page_files.proofs.Steps.{writes_after}
 use Rattle.page_rows.specs.Indexes.{begins_with}
-use Rattle.page_places.specs.Changes.{HasRows}
 use Rattle.page_places.specs.Entries.{with_entries}
 use Rattle.page_places.specs.Places.{indexes_of}
 use Rattle.row_writes.specs.Tests.{rows_left}

@@ -2,7 +2,6 @@ use Rattle.std.proofs.Common.{[], refl, arith}
 use Rattle.std.proofs.lemmas.Result.{err_from_is_err_and}
 use Rattle.sqlite_pool.specs.Pool.{state}
 use Rattle.sqlite_pool.specs.StoredLaws.{Keeps-refl, Keeps-trans}
-use Rattle.sqlite_sql.specs.Catalog.{entry_of}
 use Rattle.page_files.proofs.Causes.{fails_later}
 use Rattle.page_places.specs.Entries.{with_entries}
 use Rattle.row_writes.specs.Under.{out_under}

@@ -1,4 +1,4 @@
-use Rattle.std.proofs.Common.{◌≡◌, length, map, filter, IsPermutation, ap, subst, sym, ◌∙◌, arith}
+use Rattle.std.proofs.Common.{length, map, filter, IsPermutation, ap, subst, sym, ◌∙◌, arith}
 use Rattle.std.proofs.lemmas.List.Sorted.{IsPermutation-trans}
 use Rattle.sqlite_value.specs.Keys.{plain}
 use Rattle.page_files.specs.Trees.{trees_of}

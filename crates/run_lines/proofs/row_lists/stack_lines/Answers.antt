@@ -1,4 +1,4 @@
-use Rattle.std.proofs.Common.{rules, ◌<◌, ◌≤◌, ◌^◌, ℕ, List, length, map, refl, subst, sym, ap, ◌∙◌, arith}
+use Rattle.std.proofs.Common.{rules, ◌<◌, ◌≤◌, ◌^◌, ℕ, List, length, map, subst, sym, ap, ◌∙◌, arith}
 use Rattle.std.specs.Iterator.{Drains, YieldsFirstBy}
 use Rattle.std.proofs.lemmas.Iterator.Consumers.{YieldsList-at, YieldsList-from_first, YieldsList-turn}
 use Rattle.std.proofs.lemmas.List.Concat.{flat_map_single}

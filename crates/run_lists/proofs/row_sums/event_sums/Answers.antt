@@ -1,4 +1,4 @@
-use Rattle.std.proofs.Common.{◌≡◌, ◌+◌, ◌==◌, ℕ, if◌then◌else◌, length, slice_index, sym, ap, ◌∙◌}
+use Rattle.std.proofs.Common.{◌+◌, ◌==◌, if◌then◌else◌, length, slice_index, sym, ap, ◌∙◌}
 use Rattle.std.proofs.lemmas.List.{with_items_is}
 use Rattle.run_lists.specs.declared.listed.ListedEvent.{ListedEvent}
 use Rattle.run_lists.proofs.PartSums.{event_counted, event_passed_over}

@@ -1,6 +1,6 @@
-use Rattle.std.proofs.Common.{true, false, [], ◌∷◌, ◌++◌}
+use Rattle.std.proofs.Common.{false}
 use Rattle.std.specs.Result.{is_ok}
-use Rattle.sql_tables.specs.Contents.{Contain, no_rows}
+use Rattle.sql_tables.specs.Contents.{no_rows}
 use Rattle.sql_tables.specs.States.{Works}
 use Rattle.store_schema.specs.Schema.{schema_one, schema_both, schema_two}
 use Rattle.store_schema.specs.Making.{AreEmpty}

@@ -4,7 +4,7 @@ use Rattle.sql_tables.proofs.Orders.{rising}
 use Rattle.held_lines.specs.declared.held_names.HeldName.{HeldName}
 use Rattle.held_lines.proofs.NameLists.{Rise, lines_rise}
 use Rattle.held_lines.proofs.held_names.HeldNames.of.Goals as goal
-use Rattle.held_lines.proofs.held_names.HeldNames.of.Goals.{Then-rise, Else-rise}
+use Rattle.held_lines.proofs.held_names.HeldNames.of.Goals.{Then-rise}
 
 abbrev Adjacent : List HeldName → Type 0
 Adjacent names = AllAdjacentBelow (λ (a b : HeldName). a.number < b.number) names (length names)

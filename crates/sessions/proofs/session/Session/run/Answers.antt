@@ -1,4 +1,4 @@
-use Rattle.std.proofs.Common.{◌<◌, [], map, drop, length, sym, refl, subst, ◌∙◌, ◌+◌, append-nil, arith}
+use Rattle.std.proofs.Common.{◌<◌, [], map, drop, length, sym, refl, subst, ◌∙◌, append-nil, arith}
 use Rattle.std.proofs.lemmas.List.{at_drop_all}
 use Rattle.std.proofs.lemmas.Result.{err_from_is_err_and}
 use Rattle.byte_io.specs.Imported.{WereRead}
