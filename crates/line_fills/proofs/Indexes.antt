@@ -93,8 +93,6 @@ module _ {D : Type 0} {g : Ghosts D} where
     pub part : IsFaithful file → (wanted : List Wanted) (roots : List ℕ) (was now : Trees) (indexes : List Index) (olds : List Row) → Writes wanted roots was now old
         → AreIndexPlaces wanted roots places indexes → CanBeFilled now indexes olds news → IsPart wanted roots was now places indexes news k file
 
-  }
-
   module _ (wanted : List Wanted) (roots : List ℕ) (was now : Trees) (places : List IndexPlace) (indexes : List Index) (news : List Row) (k : ℕ) (file : PageFile D g)
       (part : IsPart wanted roots was now places indexes news k file) where
     pub all_filled : length places ≡ k → HasEntries wanted roots was now indexes news file

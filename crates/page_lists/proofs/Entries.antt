@@ -8,8 +8,6 @@ use Rattle.page_lists.specs.Texts.{alone_in}
 use Rattle.page_lists.specs.declared.texts.Found.{Found}
 use Rattle.page_lists.specs.declared.texts.Found.TheVariants.{Ours, OursWithMore, Others}
 
--- ---- one entry
-
 -- ---- those that were taken, and one more
 
 all_more : {X : Type 0} (P : X → Type 0) (xs : List X) (x : X) → AllByRecursion P xs → P x → AllByRecursion P (xs ++ x ∷ [])

@@ -40,10 +40,6 @@ map_injective f one (x ∷ xs) (y ∷ ys) is =
     let later : map f xs ≡ map f ys = cc in
     ap₂ ◌∷◌ (one x y first) (map_injective f one xs ys later)
 
--- ---- the rows of a run, as they are taken
-
-module _ {L : Type 0} (columns : L → Row) (run : ℕ) where
-
 -- ---- where they begin
 
 -- a first row is that of more rows

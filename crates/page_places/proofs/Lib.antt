@@ -27,4 +27,3 @@ pub mod Spaced
 pub mod Store
 pub mod Stores
 pub mod TakenOut
-pub mod Thinned

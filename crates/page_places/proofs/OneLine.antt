@@ -122,5 +122,3 @@ module _ (t : Tables) (db : Trees) (was : Holds t db) where
     pub baseline_put : (n : ℕ) (id : ℤ) (g : GroupRow) → Has (db grp_at.tree) (Int id ∷ group_columns g) → OnlyChanges schema_two db next grp_at → IsShaped shape.Table (next grp_at.tree)
         → next grp_at.tree ≡ put_row (Int id ∷ group_columns (rebased n g)) (db grp_at.tree) → has_run t n ≡ true → Holds (with_baseline g.name n t) next
     baseline_put n id g there only shaped put held = group_put (rebased n) id g there only shaped put refl (λ m is. let same : n ≡ m = cc in subst (λ k. has_run t k ≡ true) same held)
-
--- ---- a group goes once its members are gone

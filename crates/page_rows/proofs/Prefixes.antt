@@ -82,5 +82,3 @@ module _ (order : Order) (key : Row) where
 -- an entry begins with its own first column
 pub begins_itself : (order : Order) (value : Value) (rest : Row) → begins_with order (value ∷ []) (value ∷ rest) ≡ true
 begins_itself order value rest = ap is_eq (then-Equal _ ∙ tied_itself (by_key_total (first_key order)) value)
-
-]

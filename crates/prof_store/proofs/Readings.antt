@@ -1,5 +1,5 @@
 -- Rows beside the lines as which they are read: what a test and a query show of the one and of the other.
-use Rattle.std.proofs.Common.{◌≡◌, ℕ, ◌≤◌, ◌^◌, List, [], ◌∷◌, map, drop, ap}
+use Rattle.std.proofs.Common.{◌≡◌, ℕ, List, [], ◌∷◌, map, drop, ap}
 use Rattle.std.specs.List.{AllZip}
 use Rattle.sqlite_value.specs.Order.{Row, column}
 use Rattle.sqlite_trees.specs.Tree.{Trees}
@@ -9,17 +9,11 @@ use Rattle.plain_tables.specs.Tables.{Tables}
 use Rattle.store_schema.specs.Tables.{meta_columns, run_columns, event_columns, derived_columns, coef_columns, cell_columns, arc_columns, stack_columns, group_columns, member_columns}
 use Rattle.prof_store.specs.Readings.{as_read, row_read, IsSaidBy, Says, SaysBehind}
 
--- ---- values
-
-module _ (far : ℕ → ℕ) (is_far : (n : ℕ) → 2 ^ 64 ≤ far n) where
-
 -- ---- rows
 
 -- what a query shows of a row, so read
 abbrev pub values_read : (ℕ → ℕ) → Row → Row
 values_read far r = map (as_read far) r
-
-module _ (far : ℕ → ℕ) (r : Row) (at : ℕ) where
 
 -- ---- rows and lines, one beside another
 
@@ -40,12 +34,6 @@ all_say_behind far table columns (r ∷ rows) (x ∷ xs) h =
     let first : drop 1 (row_read far table r) ≡ columns x = cc in
     let rest : map (drop 1) (map (row_read far table) rows) ≡ map columns xs = cc in
     ((as_read far (column r 0), ap (λ l. as_read far (column r 0) ∷ l) first), all_say_behind far table columns rows xs rest)
-
-module _ {X : Type 0} (Said : Row → X → Type 0) where
-
-  ]
-
-  ]
 
 -- ---- each table
 

@@ -15,8 +15,6 @@ use Rattle.store_schema.specs.Tables.{Holds, run_columns, event_columns, derived
 use Rattle.prof_store.specs.Readings.{as_read, row_read, IsSaidBy, RowsSay}
 use Rattle.prof_store.proofs.Readings.{values_read}
 
--- ---- sums
-
 -- ---- a line of a group has no negative number
 
 group_plain : (far : ℕ → ℕ) (g : GroupRow) → values_read far (group_columns g) ≡ group_columns g
@@ -31,10 +29,6 @@ group_plain far g = go g.baseline
 pub said : (t : Tables) (db : Trees) → RowsSay t db → IsSaidBy t db
 unfolding RowsSay
 said t db was = was
-
-module _ (t : Tables) (db : Trees) (was : IsSaidBy t db) where
-
-  -- ---- sums over all runs
 
 -- ---- lines that tables hold
 

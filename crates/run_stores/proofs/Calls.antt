@@ -149,8 +149,6 @@ module _ {S : Type 0} (g : Ghosts S) where
       ];
     }
 
-    }
-
     -- the same change, told of other meanings of rows that are sound
     pub changed_soundly : {N : Type 0} (Earlier Later : N → Tables → Type 0) (ok done : Bool) (old new : S)
         → ((n : N) → Rests g (Earlier n) old → (m : M) × Rests g (Before m) old × ((t : Tables) → AreSound t → After m t → Later n t))

@@ -9,8 +9,6 @@ module _ {S : Type 0} (takes : S → List ℕ → S → Type 0) (from : S) where
   pub on_none : IsOn takes from [] from []
   on_none = record { gone = []; out = gone_none takes from; whole = refl }
 
-  }
-
   -- all that was held was taken
   pub all_gone : (held : List ℕ) (before after : S) (text : List ℕ) → IsOn takes from held before text → takes before held after → HasGone takes from text after
   all_gone held before after text on is = subst (λ (l : List ℕ). HasGone takes from l after) on.whole (gone_on takes from before after on.gone held on.out is)

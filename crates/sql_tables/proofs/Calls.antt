@@ -9,7 +9,7 @@ use Rattle.sqlite.specs.Effect.{Database, IsDatabase}
 use Rattle.sqlite.specs.Does.{Tally, Does}
 use Rattle.sqlite.specs.Calls.{IsWrite}
 use Rattle.sqlite.specs.Listing.{understood}
-use Rattle.sqlite.specs.State.{State, HasCleanDisk, IsUnchanged, IsRolledBack, Survives, CommitsBy, CommitsShowing}
+use Rattle.sqlite.specs.State.{State, HasCleanDisk, IsUnchanged, IsRolledBack, Survives, CommitsBy}
 use Rattle.sqlite.proofs.Callers.{IsPlain, command_of}
 use Rattle.sql_tables.specs.States.{Rests}
 use Rattle.sql_tables.specs.Calls.{IsSettled, IsAsBefore, Stays, Asked}
@@ -67,7 +67,6 @@ rests_before schema P old new was is_open same = record {
 
 -- ---- calls that ask
 
-}
   where
     refl_now : s.now ≡ s.now
     refl_now = cc
@@ -78,35 +77,14 @@ rests_before schema P old new was is_open same = record {
 pub asked_if : (schema : Schema) (ok : Bool) (old new : State) → Asked schema true old new → Asked schema ok old new
 asked_if schema ok old new h = record { stays = stays_if ok old new h.stays; same = λ _. h.same refl; kept = h.kept; crash = h.crash }
 
-}
-
-}
-
 -- what stood stands after a call that asked
 pub asked_rests : (schema : Schema) (P : Trees → Type 0) (old new : State) → Asked schema true old new → Rests schema P old → Rests schema P new
 asked_rests schema P old new h was = rests_before schema P old new was (h.stays.is_open refl) (h.kept (settled_of schema P old was) (h.stays.is_open refl))
-
--- ---- over a connection that was shut
-
--- ---- calls that change
-
-module _ (schema : Schema) {M : Type 0} (Before After : M → Trees → Type 0) where
-
-  }
-
-  }
-
-  }
-
-  }
 
 -- ---- statements
 
 pub stays_by : {C : Trees → Type 0} (ok : Bool) (old new : State) → Survives old new C → HasCleanDisk new → WasOpen old new → (IsTrue ok → IsTrue new.is_open) → Stays ok old new
 stays_by ok old new h clean was_open is_open = record { was_clean = omega (arith, h.clean, clean); counts = h.counts; closes = h.closes clean; was_open = was_open; is_open = is_open }
-
-module _ (schema : Schema) (sql : List ℕ) (params : Row) (plain : IsPlain (understood schema sql)) (old new : State) (clean : HasCleanDisk new) (survives : Survives old new (CommitsShowing sql params old)) where
-  }
 
 -- a statement that writes, of which it is known what it makes of tables that a meaning fits
 module _ (schema : Schema) (sql : List ℕ) (params : Row) (command : Command) (means : command_of (understood schema sql) ≡ command) (plain : IsPlain (understood schema sql)) (writes : IsWrite command)
@@ -115,5 +93,3 @@ module _ (schema : Schema) (sql : List ℕ) (params : Row) (command : Command) (
     → Does limit plain_mode params (record { schema = schema; trees = trees }) text None command (Ok (tally, after))
     → (after.schema ≡ schema) × After m after.trees)
     (old new : State) (clean : HasCleanDisk new) (survives : Survives old new (CommitsBy sql params old)) where
-
--- ---- by what is returned

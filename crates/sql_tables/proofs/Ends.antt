@@ -21,13 +21,9 @@ use Rattle.sql_tables.specs.Walks.{Asked}
 module _ (greatest : Bool) (AtMost : ℤ → ℤ → Type 0) (self : (x : ℤ) → AtMost x x) (trans : (x y z : ℤ) → AtMost x y → AtMost y z → AtMost x z)
     (none_better : (z : ℤ) → better Binary greatest Null (Int z) ≡ Int z) (picks : (x z : ℤ) → (y : ℤ) × (better Binary greatest (Int x) (Int z) ≡ Int y) × AtMost y z × AtMost y x) where
 
--- ---- the one row of the answer
-
 -- ---- where the rows asked for lie
 
 -- the text that asks for the ends
 module _ (schema : Schema) (sql : List ℕ) (a : Asked) (tree : ℕ) (names : List (List ℕ)) (means : command_of (understood schema sql) ≡ Select (only (ends_query tree a.at)) names) (plain : IsPlain (understood schema sql))
     (unlisted : reads_listing schema sql ≡ false) (old new : State) (has : old.now.schema ≡ schema) (seen : overlay old.now.trees [] tree ≡ old.now.trees tree) (numbered : IsShaped shape.Table (old.now.trees tree)) (row : Row)
     (h : QueriesRow sql (Int (pos a.number) ∷ []) old new (Ok row)) where
-
-  ]

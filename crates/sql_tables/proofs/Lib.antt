@@ -18,7 +18,6 @@ pub mod Rows
 pub mod Selects
 pub mod Statements
 pub mod Updates
-pub mod Walks
 pub mod Beside
 pub mod Copies
 pub mod TableDrops

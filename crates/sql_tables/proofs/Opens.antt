@@ -1,14 +1,12 @@
 -- A call that answers finds the connection open and leaves it so, and no call opens a connection that is shut, whatever its schema.
-use Rattle.std.proofs.Common.{◌≡◌, ◌⊎◌, inl, inr, ℕ, List, Option, None, Some, Ok, Err, Result, IsTrue, sym, subst}
+use Rattle.std.proofs.Common.{◌≡◌, ◌⊎◌, inl, inr, ℕ, List, Option, None, Some, Ok, Err, Result, IsTrue}
 use Rattle.sqlite_value.specs.Order.{Row}
 use Rattle.sqlite_trees.specs.declared.error.StoreError.{StoreError}
 use Rattle.sqlite_schema.specs.declared.command.Returning.{Returning}
 use Rattle.sqlite_resolve.specs.Compile.{returning}
 use Rattle.sqlite.specs.declared.error.Error.{Error}
-use Rattle.sqlite.specs.declared.error.Error.TheVariants.{QueryReturnedNoRows}
 use Rattle.sqlite.specs.Clock.{timed}
 use Rattle.sqlite.specs.State.{State, IsUnchanged, IsRolledBack, IsNotRun, QueriesRow, Shown, ShowsRows, FailsToQuery, FailsToShow, store_error}
-use Rattle.sql_tables.proofs.Failures.{IsFailure, failure_of}
 
 -- the connection was open and is
 pub record IsOpen (old new : State) : Type 0 where
@@ -52,21 +50,8 @@ unfolding QueriesRow
 row_open sql params old new row (inl h) = open_if_same old new h.1
 row_open sql params old new row (inr h) = shown_open sql params old new h.0 h.1
 
--- that no row was found is an answer too
-pub no_row_open : (sql : List ℕ) (params : Row) (old new : State) → QueriesRow sql params old new (Err QueryReturnedNoRows) → IsOpen old new
-unfolding QueriesRow
-no_row_open sql params old new (inl h) = elim (failed_so sql params old new QueryReturnedNoRows h) [
-  | inl same ↦ open_if_same old new same
-  | inr back ↦ absurd (subst IsFailure (sym back.1) (failure_of back.0))
-]
-no_row_open sql params old new (inr h) = shown_open sql params old new _ h.1
-
 pub row_was_open : (sql : List ℕ) (params : Row) (old new : State) (r : Result Row Error) → QueriesRow sql params old new r → WasOpen old new
 unfolding QueriesRow
 row_was_open sql params old new (Ok row) h is_open = (row_open sql params old new row h).was_open
 row_was_open sql params old new (Err e) (inl h) is_open = fails_was_open sql params old new e h is_open
 row_was_open sql params old new (Err e) (inr h) is_open = (shown_open sql params old new _ h.1).was_open
-
--- ---- statements that write
-
-]

@@ -4,9 +4,6 @@ use Rattle.std.specs.List.{AllByRecursion, AllAdjacentBelow}
 use Rattle.sqlite_trees.specs.Tree.{IsAscending}
 use Rattle.sqlite_value.specs.declared.value.Value.{Value}
 use Rattle.sqlite_value.specs.Order.{Row}
-use Rattle.sqlite_value.specs.declared.keys.Key.{Key}
-use Rattle.sqlite_sql.specs.Term.{Term}
-use Rattle.sql_tables.proofs.Queries.{Selects}
 use Rattle.sql_tables.proofs.Rows.{Numbered}
 
 module _ {X : Type 0} (n : X → ℕ) where
@@ -30,8 +27,6 @@ module _ {X : Type 0} (n : X → ℕ) where
       let more = rising (y ∷ ys) (rest_rises x (y ∷ ys) h) in
       let first : n x < n y = h 0 x (omega arith) in
       ((first, above x y ys first more.0), more)
-
-module _ (tree : ℕ) (terms project : List Term) (order : List (Term × Key)) (rows : List Row) (params : Row) (answer : List Row) (s : Selects tree terms project order rows params answer) where
 
 -- what is seen of the rows of a table whose rowids nobody reads
 pub seen_columns : {X : Type 0} (columns shown : X → Row) (seen : Row → Row) → ((id : Value) (x : X) → seen (id ∷ columns x) ≡ shown x) → (rows : List Row) (xs : List X) → AllByRecursion Numbered rows → map (drop 1) rows ≡ map columns xs

@@ -98,5 +98,3 @@ none_of sql bare schema c is = subst (λ r. IfOk r ShowsNone) is (understood_non
 pub commits_none : (sql : List ℕ) → HasNoReturning sql → (params : Row) (s : State) (db : Trees) → CommitsShowing sql params s db → ⊥
 unfolding CommitsShowing
 commits_none sql bare params s db h = let some = subst IsSome (none_of sql bare s.now.schema h.0 h.1.is) h.2 in cc some
-
--- ---- what one schema understands without RETURNING has none

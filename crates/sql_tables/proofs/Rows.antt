@@ -124,8 +124,6 @@ pub record Picks (p : Row → Bool) (rows : List Row) (ids : List ℤ) : Type 0 
   pub sound : (id : ℤ) → Has ids id → (r : Row) × Has rows r × (p r ≡ true) × (rowid r ≡ Int id)
   pub complete : (r : Row) (id : ℤ) → Has rows r → p r ≡ true → rowid r ≡ Int id → Has ids id
 
-}
-
 picked_is : (p : Row → Bool) (rows : List Row) (ids : List ℤ) → IsShaped shape.Table rows → Picks p rows ids → (r : Row) → Has rows r → list_any (λ id. has_rowid id r) ids ≡ p r
 picked_is p rows ids numbered h r there = elim (cases_Bool (p r)) [
   | inl is ↦ some_from (λ id. has_rowid id r) ids (id_of r) (h.complete r (id_of r) there is (id_is r (all_has Numbered rows r numbered.1 there))) (own_id r (all_has Numbered rows r numbered.1 there)) ∙ sym is

@@ -40,11 +40,6 @@ write_runs old new Nothing text params count is h = absurd is
 write_runs old new CreateView text params count is h = h
 write_runs old new (DropView at) text params count is h = h
 
-]
-
-module _ (schema : Schema) (P : Trees → Type 0) where
-  }
-
 -- a statement inside a transaction leaves the last commit
 pub inside_kept : (sql : List ℕ) (params : Row) (old new : State) (r : Result ℕ Error) → ExecutesInside 0 sql params old new r → KeepsCommit old new
 inside_kept sql params old new (Ok count) h is_open = (h.1.was_open, h.1.committed_is)

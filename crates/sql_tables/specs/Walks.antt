@@ -35,7 +35,3 @@ said a r = Int (pos a.number) ∷ map (column r) a.places
 
 abbrev pub is_left : Asked → ℕ → Row → Bool
 is_left a low r = is_asked a r && is_above low r
-
--- ---- how far a walk has come
-
-module _ (a : Asked) (rows : List Row) where

@@ -1,5 +1,5 @@
 -- What the texts that read find in the tables.
-use Rattle.std.proofs.Common.{◌≡◌, ℕ, List, [], ◌∷◌, codes, false, Ok, inl, refl, ap, subst}
+use Rattle.std.proofs.Common.{◌≡◌, [], ◌∷◌, codes, false, Ok, inl, refl, ap, subst}
 use Rattle.sqlite_value.specs.Order.{Row, column}
 use Rattle.sqlite_trees.specs.Tree.{Trees}
 use Rattle.sqlite_rules.specs.Lists.{Has}
@@ -45,5 +45,3 @@ first_schema_found old new row has h = number_found schema_one first_schema_mean
 
 pub run_row : (t : Tables) (db : Trees) (r : Row) → Holds t db → Has (db 1) r → (line : RunRow) × Has t.runs line × (r ≡ run_columns line)
 run_row t db r was there = has_mapped run_columns t.runs r (subst (λ l. Has l r) was.contain.contents_are.1.0.rows_are there)
-
-module _ (digest : List ℕ) (old new : State) (has : old.now.schema ≡ schema_two) where

@@ -12,4 +12,3 @@ use Rattle.store_schema.proofs.Means.{find_member_terms, find_member_shown, find
 -- a member is found exactly where there is one
 module _ (name : List ℕ) (n : ℕ) (t : Tables) (rows answer : List Row) (here : IsContent member_at (map member_columns t.members) rows)
     (s : Selects 21 find_member_terms find_member_shown find_member_order rows (Text name ∷ number n ∷ []) answer) where
-  ]

@@ -22,7 +22,7 @@ use Rattle.sqlite_tied.proofs.RuleLemmas.{and_true}
 use Rattle.store_schema.specs.Schema.{schema_two, name_at}
 use Rattle.plain_tables.specs.Tables.{Tables, NameRow}
 use Rattle.store_schema.specs.Names.{number_if_held}
-use Rattle.store_schema.specs.Tables.{Holds, name_columns, number}
+use Rattle.store_schema.specs.Tables.{name_columns, number}
 use Rattle.plain_tables.specs.Changes.{has_name}
 use Rattle.plain_tables.specs.Files.{number_in}
 use Rattle.store_schema.proofs.Values.{blobs_equal}
@@ -80,8 +80,6 @@ pub line_named : (t : Tables) (db : Trees) → IsSound schema_two db → db 11 �
 line_named t db sound rows_are line there =
     let itself = (bytes_eq-Decides line.name line.name).1 refl in
     (some_from _ t.names line there itself, number_of_line t.names line.name line (λ a h e. same_number t db sound rows_are a line h there e) there itself)
-
-module _ (t : Tables) (db : Trees) (was : Holds t db) (name : List ℕ) where
 
 -- ---- the number of a name, if it is held
 

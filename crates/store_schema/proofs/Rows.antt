@@ -15,7 +15,7 @@ use Rattle.sql_tables.specs.Contents.{Contain, no_rows}
 use Rattle.sql_tables.proofs.Inserts.{inserts_keyed}
 use Rattle.sql_tables.proofs.Statements.{plain_mode}
 use Rattle.store_schema.specs.Schema.{schema_two, meta_at}
-use Rattle.plain_tables.specs.Tables.{Tables, RunRow, NameRow, new_tables}
+use Rattle.plain_tables.specs.Tables.{RunRow, NameRow, new_tables}
 use Rattle.store_schema.specs.Tables.{Holds, run_columns, name_columns, number}
 use Rattle.store_schema.proofs.Means.{begin_terms}
 use Rattle.store_schema.proofs.Values.{cast_null, cast_number, number_below}
@@ -37,5 +37,3 @@ pub begins : (limit : Option ℕ) (trees : Trees) (text : List ℕ) (tally : Tal
 begins limit trees text tally after was sound h =
     let it = inserts_keyed schema_two (no_rows schema_two.tables) limit [] trees text tally after 0 meta_at refl refl begin_terms 4 was sound h (pos 1) (Null ∷ number 2 ∷ number 1 ∷ []) 0 refl (simp (cast_null, cast_number)) tt in
     (it.0, record { contain = it.1; below = tt })
-
-module _ (t : Tables) (limit : Option ℕ) (trees : Trees) (text : List ℕ) (tally : Tally) (after : Database) (was : Holds t trees) (sound : IsDatabase after) where

@@ -1,27 +1,12 @@
 -- Calls within a transaction, one after another.
-use Rattle.std.proofs.Common.{◌≡◌, ℕ, List, Bool, IsTrue, Result, Ok, Err, sym, ◌∙◌}
+use Rattle.std.proofs.Common.{ℕ, List, Bool, IsTrue, Result, Ok, Err, sym, ◌∙◌}
 use Rattle.std.specs.Result.{is_ok}
 use Rattle.sqlite_value.specs.Order.{Row}
 use Rattle.sqlite_trees.specs.declared.store.Store.{Ghosts}
 use Rattle.sqlite.specs.declared.error.Error.{Error}
 use Rattle.sqlite.specs.declared.transaction.Transaction.{Transaction}
-use Rattle.sqlite.specs.State.{State, Survives, ExecutesInside}
-use Rattle.plain_tables.specs.Tables.{Tables}
-use Rattle.store_schema.specs.Within.{inside, IsFaithful, IsRunning, Ran, TextMakes}
-
-}
-
-module _ {S : Type 0} (g : Ghosts S) where
-
-  }
-
-  }
-
-  }
-
-  }
-
-  }
+use Rattle.sqlite.specs.State.{State, ExecutesInside}
+use Rattle.store_schema.specs.Within.{inside, IsFaithful, IsRunning, Ran}
 
 -- ---- statements
 
@@ -32,15 +17,3 @@ inside_open text params old new (Err e) is h = absurd (cc is)
 -- a statement that was run found the connection open
 pub text_open : {S : Type 0} (g : Ghosts S) (text : List ℕ) (params : Row) (ok : Bool) (old new : Transaction S) → Ran g text params ok old new → IsTrue ok → IsFaithful g new → IsRunning g old → IsTrue (inside g old).is_open
 text_open g text params ok old new h is clean running = let it = h.ran clean running in inside_open text params (inside g old) (inside g new) it.0 (sym it.1 ∙ is) it.2
-
-module _ (text : List ℕ) (params : Row) (given : Tables → Type 0) (change : Tables → Tables) (makes : TextMakes text params given change) where
-
-  }
-
--- a query, whatever its text
-module _ (text : List ℕ) (params : Row) (old new : State) where
-
-module _ {S : Type 0} (g : Ghosts S) (text : List ℕ) (params : Row) (old new : Transaction S) (same : new.conn.ghost_name ≡ old.conn.ghost_name) (survives : Survives (inside g old) (inside g new) (λ _. ⊥)) where
-  }
-
-  }

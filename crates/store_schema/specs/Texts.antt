@@ -17,10 +17,6 @@ second_sql = codes "UPDATE meta SET schema = 2"
 abbrev pub begin_sql : List ℕ
 begin_sql = codes "INSERT INTO meta (id, schema, next_run) VALUES (1, 2, 1)"
 
--- ---- rows are changed
-
--- ---- rows are deleted
-
 -- ---- rows are read
 
 abbrev pub schema_sql : List ℕ

@@ -1,23 +1,15 @@
 -- What a call within a transaction leaves, whatever it answers.
-use Rattle.std.specs.Prelude.{◌≡◌, ℕ, Bool, List, IsTrue, Option, None, Result, Ok}
+use Rattle.std.specs.Prelude.{◌≡◌, ℕ, Bool, List, IsTrue, Result}
 use Rattle.std.specs.Bool.{⊤}
 use Rattle.std.specs.Result.{is_ok}
 use Rattle.sqlite_value.specs.Order.{Row}
-use Rattle.sqlite_trees.specs.Tree.{Trees}
 use Rattle.sqlite_trees.specs.declared.store.Store.{Ghosts}
-use Rattle.sqlite_schema.specs.declared.command.Command.{Command}
 use Rattle.sqlite.specs.declared.error.Error.{Error}
 use Rattle.sqlite.specs.declared.transaction.Transaction.{Transaction}
-use Rattle.sqlite.specs.Calls.{IsWrite}
-use Rattle.sqlite.specs.Does.{Tally, Does}
-use Rattle.sqlite.specs.Effect.{Database, IsDatabase}
 use Rattle.sqlite.specs.Held.{Held, state}
-use Rattle.sqlite.specs.Listing.{understood}
 use Rattle.sqlite.specs.State.{State, HasCleanDisk, Survives, ExecutesInside}
-use Rattle.sqlite.proofs.Callers.{IsPlain, command_of}
 use Rattle.sql_tables.specs.Calls.{KeepsIfShut}
 use Rattle.sql_tables.specs.States.{Works, KeepsCommit}
-use Rattle.sql_tables.proofs.Statements.{plain_mode}
 use Rattle.store_schema.specs.Schema.{schema_two}
 use Rattle.plain_tables.specs.Tables.{Tables}
 use Rattle.store_schema.specs.Tables.{Holds}
@@ -72,17 +64,3 @@ module _ {S : Type 0} (g : Ghosts S) where
 -- over a connection that was shut it commits nothing
 abbrev pub CommitsUnlessShut : {S : Type 0} → Ghosts S → Held S → Held S → Type 0
 CommitsUnlessShut g old new = HasCleanDisk (state g new) → KeepsIfShut (state g old) (state g new)
-
--- what a command makes of the tables
-abbrev pub Effect : Row → Command → Tables → Tables → Type 0
-Effect params command t next =
-    (limit : Option ℕ) (trees : Trees) (text : List ℕ) (tally : Tally) (after : Database) → Holds t trees → IsDatabase after
-    → Does limit plain_mode params (record { schema = schema_two; trees = trees }) text None command (Ok (tally, after)) → (after.schema ≡ schema_two) × Holds next after.trees
-
--- a text is one statement that writes, and what it makes of the tables, where they are in a state for it, is the change
-pub record TextMakes (text : List ℕ) (params : Row) (given : Tables → Type 0) (change : Tables → Tables) : Type 0 where
-  pub command : Command
-  pub means : command_of (understood schema_two text) ≡ command
-  pub plain : IsPlain (understood schema_two text)
-  pub writes : IsWrite command
-  pub effect : (t : Tables) → given t → Effect params command t (change t)
