@@ -1,20 +1,13 @@
 -- Calls one after another, and what each kind of statement is.
-use Rattle.std.proofs.Common.{refl, Option, None, ◌≡◌, ◌≤◌, ◌⊎◌, inl, inr, ℕ, List, Bool, true, Ok, IsTrue, sym, ap, subst, ◌∙◌, arith}
+use Rattle.std.proofs.Common.{refl, ◌≤◌, ◌⊎◌, inl, inr, ℕ, Bool, true, IsTrue, sym, ap, subst, ◌∙◌, arith}
 use Rattle.sqlite_disk.specs.Disk.{MoreFaults}
-use Rattle.sqlite_value.specs.Order.{Row}
 use Rattle.sqlite_trees.specs.Tree.{Trees}
 use Rattle.sqlite_schema.specs.declared.schema.Schema.{Schema}
-use Rattle.sqlite_schema.specs.declared.command.Command.{Command}
-use Rattle.sqlite.specs.Effect.{Database, IsDatabase}
-use Rattle.sqlite.specs.Does.{Tally, Does}
-use Rattle.sqlite.specs.Calls.{IsWrite}
-use Rattle.sqlite.specs.Listing.{understood}
-use Rattle.sqlite.specs.State.{State, HasCleanDisk, IsUnchanged, IsRolledBack, Survives, CommitsBy}
-use Rattle.sqlite.proofs.Callers.{IsPlain, command_of}
+use Rattle.sqlite.specs.Effect.{Database}
+use Rattle.sqlite.specs.State.{State, HasCleanDisk, IsUnchanged, IsRolledBack, Survives}
 use Rattle.sql_tables.specs.States.{Rests}
 use Rattle.sql_tables.specs.Calls.{IsSettled, IsAsBefore, Stays, Asked}
 use Rattle.sql_tables.proofs.Opens.{WasOpen}
-use Rattle.sql_tables.proofs.Statements.{plain_mode}
 
 -- ---- faults
 
@@ -67,13 +60,6 @@ rests_before schema P old new was is_open same = record {
 
 -- ---- calls that ask
 
-  where
-    refl_now : s.now ≡ s.now
-    refl_now = cc
-
-    refl_committed : s.committed ≡ s.committed
-    refl_committed = cc
-
 pub asked_if : (schema : Schema) (ok : Bool) (old new : State) → Asked schema true old new → Asked schema ok old new
 asked_if schema ok old new h = record { stays = stays_if ok old new h.stays; same = λ _. h.same refl; kept = h.kept; crash = h.crash }
 
@@ -85,11 +71,3 @@ asked_rests schema P old new h was = rests_before schema P old new was (h.stays.
 
 pub stays_by : {C : Trees → Type 0} (ok : Bool) (old new : State) → Survives old new C → HasCleanDisk new → WasOpen old new → (IsTrue ok → IsTrue new.is_open) → Stays ok old new
 stays_by ok old new h clean was_open is_open = record { was_clean = omega (arith, h.clean, clean); counts = h.counts; closes = h.closes clean; was_open = was_open; is_open = is_open }
-
--- a statement that writes, of which it is known what it makes of tables that a meaning fits
-module _ (schema : Schema) (sql : List ℕ) (params : Row) (command : Command) (means : command_of (understood schema sql) ≡ command) (plain : IsPlain (understood schema sql)) (writes : IsWrite command)
-    {M : Type 0} (Before After : M → Trees → Type 0)
-    (makes : (m : M) (limit : Option ℕ) (trees : Trees) (text : List ℕ) (tally : Tally) (after : Database) → Before m trees → IsDatabase after
-    → Does limit plain_mode params (record { schema = schema; trees = trees }) text None command (Ok (tally, after))
-    → (after.schema ≡ schema) × After m after.trees)
-    (old new : State) (clean : HasCleanDisk new) (survives : Survives old new (CommitsBy sql params old)) where

@@ -1,11 +1,8 @@
 pub mod Calls
-pub mod Cascades
 pub mod Contents
-pub mod Counts
 pub mod Creates
 pub mod Deletes
 pub mod Effects
-pub mod Ends
 pub mod Failures
 pub mod Foreign
 pub mod InPlace

@@ -1,9 +1,7 @@
 pub mod Creates
 pub mod Defines
-pub mod Drops
 pub mod Finds
 pub mod Means
-pub mod MemberFinds
 pub mod Moves
 pub mod Names
 pub mod Parts

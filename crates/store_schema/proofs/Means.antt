@@ -24,12 +24,6 @@ pub begin_plain : IsPlain (understood schema_two begin_sql)
 unfolding understood everything
 begin_plain = (refl, refl)
 
-abbrev pub drop_run_terms : List Term
-drop_run_terms = is (col 1 0) (col 0 0) ∷ []
-
-abbrev pub drop_group_terms : List Term
-drop_group_terms = is (col 1 1) (col 0 0) ∷ []
-
 abbrev pub schema_terms : List Term
 schema_terms = []
 
@@ -63,12 +57,3 @@ first_schema_plain = (refl, refl)
 pub first_schema_unlisted : reads_listing schema_one schema_sql ≡ false
 unfolding understood everything
 first_schema_unlisted = refl
-
-abbrev pub find_member_terms : List Term
-find_member_terms = is (col 1 1) (col 0 0) ∷ is (col 1 2) (col 0 1) ∷ []
-
-abbrev pub find_member_shown : List Term
-find_member_shown = col 1 2 ∷ []
-
-abbrev pub find_member_order : List (Term × Key)
-find_member_order = []
