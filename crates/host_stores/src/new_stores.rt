@@ -39,7 +39,7 @@ fn filled<D: Disk + Drop>(
     let Ok(conn) = database_in(alloc, files, options) else {
         return Err(AllocError);
     };
-    let (made, conn) = ready_in_files(alloc, conn, true);
+    let (made, conn) = ready_in_files(conn, true);
     let files = closed(conn)?;
     match made {
         Ok(()) => Ok(files),

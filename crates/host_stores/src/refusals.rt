@@ -74,14 +74,14 @@ fn is_first_in<S: Alter>(conn: &mut Connection<S>) -> Result<bool, OpenError>
 }
 
 /// Whether a database is a store of version 1 that can be brought up to version 2: that is tried.
-fn is_brought_up<S: Alter + Drop>(alloc: Global, conn: Connection<S>) -> Result<bool, OpenError>
+fn is_brought_up<S: Alter + Drop>(conn: Connection<S>) -> Result<bool, OpenError>
     ensures { IfOk result (IsBroughtUp S.Store conn) }
 {
     let mut conn = conn;
     if !is_first_in(&mut conn)? {
         return Ok(false);
     }
-    match ready_in(alloc, conn, false) {
+    match ready_in(conn, false) {
         (Ok(()), _) => Ok(true),
         (Err(end), _) => Err(end),
     }
@@ -103,7 +103,7 @@ fn is_migratable<D: Disk + Drop>(
     let mut options = options;
     options.checkpoint_frames = usize::MAX;
     let conn = database_in(alloc, files, options)?;
-    Ok(is_brought_up(alloc, conn)?)
+    Ok(is_brought_up(conn)?)
 }
 
 /// Whether the database in files that are only read is to be migrated, as `is_migratable`. One that is not made yet, or

@@ -46,7 +46,6 @@ fn is_new_at(rt: &HostRuntime, path: &str) -> Result<bool, NotOpened> {
 /// The store of a database: a new one where it is to become one, else the one that it holds. A refusal
 /// hands the connection back.
 fn store_in<S: Alter>(
-    alloc: Global,
     conn: Connection<S>,
     is_new: bool,
 ) -> Result<Store<S>, (OpenError, Connection<S>)>
@@ -54,22 +53,21 @@ fn store_in<S: Alter>(
     ensures refused { IfErr result (λ e. HasCleanDisk (state S.Store e.1) → Refuses S.Store is_new e.0 conn e.1) }
 {
     if is_new {
-        Store::create(alloc, conn)
+        Store::create(conn)
     } else {
-        Store::open(alloc, conn)
+        Store::open(conn)
     }
 }
 
 /// Makes a store in a database that is to become one, or looks at the one that it holds: a store of version 1 is
 /// migrated, and a damaged one refused. Hands back the database.
 pub(crate) fn ready_in<S: Alter>(
-    alloc: Global,
     conn: Connection<S>,
     is_new: bool,
 ) -> (Result<(), OpenError>, Connection<S>)
     ensures { HasCleanDisk (state S.Store result.1) → IsReadyIn S.Store is_new result.0 conn result.1 }
 {
-    match store_in(alloc, conn, is_new) {
+    match store_in(conn, is_new) {
         Ok(store) => (Ok(()), store.into_connection()),
         Err((end, conn)) => (Err(end), conn),
     }
@@ -94,13 +92,12 @@ pub(crate) fn database_in<D: Disk + Drop>(
 /// The store of a database in files, as `ready_in`. (What is called at the type of a database in files takes half a minute to
 /// prove at each call: so this is done here alone.)
 pub(crate) fn ready_in_files<D: Disk>(
-    alloc: Global,
     conn: Connection<FileStore<D>>,
     is_new: bool,
 ) -> (Result<(), OpenError>, Connection<FileStore<D>>)
     ensures { HasCleanDisk (file_state result.1) → IsReadyIn over_files is_new result.0 conn result.1 }
 {
-    ready_in(alloc, conn, is_new)
+    ready_in(conn, is_new)
 }
 
 /// Makes a store in the database in files that is to become one, or looks at the one that it holds, and closes that: what was
@@ -115,7 +112,7 @@ fn settle<D: Disk + Drop>(
     requires log { IsTrue (D.Disk.is_usable files.log) }
     requires db { IsTrue (D.Disk.is_usable files.db) }
 {
-    let (found, conn) = ready_in_files(alloc, database_in(alloc, files, options)?, is_new);
+    let (found, conn) = ready_in_files(database_in(alloc, files, options)?, is_new);
     let _closed = conn.close();
     Ok(found?)
 }

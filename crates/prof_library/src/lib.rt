@@ -38,14 +38,14 @@ pub use cost_reports::{
 pub use inclusives::inclusive;
 pub use keys::{by, subtract};
 
-// A store in SQLite, and its rows.
-pub use held_runs::{CallSink, CellSink, StackRowSink, each_call, each_cell, each_stack, head_of};
-pub use prof_store::{GroupEntry, Kind, OpenError, RunEntry, Store, StoreError};
-pub use run_writing::{SummedFile, put_run};
+// A store in SQLite: made and opened as a database, asked and changed by the pages of its files.
+pub use page_runs::PageRuns;
+pub use prof_store::{OpenError, Store};
+pub use run_stores::{
+    CallSink, CellSink, GroupEntry, Kind, RunEntry, RunStore, StackRowSink, StoreError, SummedFile,
+};
 
-// All commands over a store of any kind, and the one in SQLite as such.
-pub use run_stores::RunStore;
-pub use sql_runs::SqlRuns;
+// All commands over a store of any kind.
 pub use warehouse::{
     Answer, Command, Excess, Limits, Query, ReadFault, Refusal, Selection, Source, Warehouse,
 };

@@ -11,9 +11,6 @@ mod refused;
 // The worked rows, over the library.
 #[cfg(test)]
 mod rows;
-// A store by SQL.
-#[cfg(test)]
-mod sql;
 // A machine that stops.
 #[cfg(test)]
 mod stops;

@@ -10,6 +10,5 @@ fn public_calls(rt: HostRuntime) -> Result<(), Fail> {
     library::rows_of_a_file_have_their_names(alloc)?;
     library::sums_may_be_fewer_than_events(alloc)?;
     lines::refused_from_then_on(alloc)?;
-    imports::a_file_has_at_most_so_many_bytes(alloc)?;
-    imports::nothing_is_put_within_a_transaction(alloc)
+    imports::a_file_has_at_most_so_many_bytes(alloc)
 }

@@ -1,16 +1,10 @@
-// One allocation is refused: of a list of commands, of walks over the rows of a run, of changes of a store in pages.
-use page_cases::page_memory;
+// One allocation is refused: of a list of commands, and of changes of a store in pages.
 use std::test::Fail;
-use test_cases::{refused, walks};
+use test_cases::{page_memory, refused};
 
 #[test]
 fn memory_refused_to_run(rt: HostRuntime) -> Result<(), Fail> {
     refused::memory_refused_to_run(rt.alloc())
-}
-
-#[test]
-fn memory_refused_to_walk(rt: HostRuntime) -> Result<(), Fail> {
-    walks::memory_refused_to_walk(rt.alloc())
 }
 
 #[test]

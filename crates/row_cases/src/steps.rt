@@ -1,9 +1,11 @@
 // Commands, and what each of them prints.
 use crate::bytes::Bytes;
 use prof_library::{
-    Command, Cut, Key, Kind, Limits, Query, RunStore, Selection, SqlRuns, Store, Warehouse, line_of,
+    Command, Cut, Key, Kind, Limits, PageRuns, Query, RunStore, Selection, Store, Warehouse,
+    line_of,
 };
-use sqlite::Connection;
+use sqlite::{Alter, Connection, Options};
+use sqlite_disk::{Disk, Files, Memory};
 use std::alloc::Global;
 use std::test::Fail;
 
@@ -151,21 +153,56 @@ pub(crate) trait Visit {
     fn visit<S: RunStore>(self, alloc: Global, warehouse: &mut Warehouse<S>) -> Result<(), Fail>;
 }
 
+/// Makes a store in an empty database. (It is written over any: what is called at the type of one in files takes long to
+/// prove.)
+fn make_in<S: Alter + Drop>(conn: Connection<S>) -> (bool, Connection<S>) {
+    match Store::create(conn) {
+        Ok(store) => (true, store.into_connection()),
+        Err((_, conn)) => (false, conn),
+    }
+}
+
+/// The files of an empty database, with a store in them.
+fn made_in<D: Disk + Drop>(alloc: Global, files: Files<D>) -> Result<Files<D>, &'static str> {
+    if !files.may_be_used() {
+        return Err("no files");
+    }
+    let Ok(conn) = Connection::open_files(alloc, files, Options::new(7)) else {
+        return Err("no database");
+    };
+    let (is_made, conn) = make_in(conn);
+    match conn.close_files() {
+        Ok(files) if is_made => Ok(files),
+        _ => Err("no store"),
+    }
+}
+
+/// The store in files, by its pages.
+fn opened_in<D: Disk + Drop>(
+    alloc: Global,
+    files: Files<D>,
+) -> Result<PageRuns<D>, &'static str> {
+    if !files.may_be_used() {
+        return Err("no files");
+    }
+    match PageRuns::open(alloc, files, Options::new(7), 0) {
+        Ok(store) => Ok(store),
+        Err(_) => Err("no store by its pages"),
+    }
+}
+
 /// Visits a warehouse over an empty store in memory.
 pub(crate) fn visit_empty<V: Visit + Drop>(
     alloc: Global,
     limits: Limits,
     visit: V,
 ) -> Result<(), Fail> {
-    let conn = match Connection::open_in_memory(alloc) {
-        Ok(conn) => conn,
-        Err(_) => Err("no database")?,
+    let files = Files {
+        log: Memory::new(alloc),
+        db: Memory::new(alloc),
     };
-    let store = match Store::create(alloc, conn) {
-        Ok(store) => store,
-        Err(_) => Err("no store")?,
-    };
-    let mut warehouse = Warehouse::new(SqlRuns { store }, limits);
+    let store = opened_in(alloc, made_in(alloc, files)?)?;
+    let mut warehouse = Warehouse::new(store, limits);
     visit.visit(alloc, &mut warehouse)
 }
 

@@ -5,7 +5,7 @@ use Rattle.sqlite_trees.specs.Tree.{Trees}
 use Rattle.sql_tables.specs.States.{Rests}
 use Rattle.callgrind_reader.specs.Grammars.{First}
 use Rattle.store_schema.specs.First.{HoldsFirst}
-use Rattle.store_schema.specs.Schema.{schema_one}
+use Rattle.store_schema.specs.Schema.{schema_one, schema_two}
 use Rattle.store_schema.specs.Tables.{Holds}
 use Rattle.plain_tables.specs.Tables.{Tables}
 use Rattle.histories.specs.History.{History}
@@ -24,6 +24,12 @@ pub record RepresentsFirst (h : History) (s : State) : Type 0 where
   pub rests : Rests schema_one (HoldsFirst t) s
   pub agrees : TablesRepresent h t
   pub by_first : AreBy First h
+
+-- between calls tables of version 2 do
+pub record RepresentsSecond (h : History) (s : State) : Type 0 where
+  pub t : Tables
+  pub rests : Rests schema_two (Holds t) s
+  pub agrees : TablesRepresent h t
 
 -- tables of either version that represent a history
 abbrev pub AgreesEither : History → Trees → Type 0

@@ -1,6 +1,6 @@
-//! Laws of stores: which history one has that is in memory, or was of version 1; what the rows of each run sum to; that one is
-//! handed over from SQL to its pages, and from its pages to SQL, over the same two files; and that what is answered depends on
-//! the files that a selection names, and on nothing else.
+//! Laws of stores: which history one has that was of version 1; what the rows of each run sum to; that one is handed over from
+//! SQL to its pages, and from its pages to SQL, over the same two files; and that what is answered depends on the files that a
+//! selection names, and on nothing else.
 #![tactic(auto)]
 
 // Laws: histories, and what rows sum to.
@@ -14,7 +14,7 @@ mod pages;
 
 pub use databases::to_database;
 pub use laws::{
-    memory_keeps_its_history, migrated_stores_have_their_history, rows_sum_to_the_small_tables,
+    migrated_stores_have_their_history, rows_sum_to_the_small_tables, small_tables_name_held_runs,
 };
 pub use pages::to_pages;
 pub use same_file_laws::{only_the_files_matter_to_exports, only_the_files_matter_to_reports};

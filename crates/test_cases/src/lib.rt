@@ -3,10 +3,8 @@
 //! where it is not so.
 #![tactic(auto)]
 
-// A store by SQL of ample size.
-pub mod ample;
-// Rows out of form in a store by SQL.
-pub mod forms;
+// The changes of a store.
+mod changes;
 // A file whose reads are given by hand.
 mod given;
 // What has to hold in a test.
@@ -17,11 +15,13 @@ pub mod imports;
 pub mod library;
 // What takes lines may refuse one; then each later piece is refused.
 pub mod lines;
+// A store of which one allocation is refused.
+pub mod page_memory;
 // A list of commands of which one allocation is refused.
 pub mod refused;
-// A machine that stops while a store is made or migrated by SQL.
+// A machine that stops while a store is made, migrated or changed.
 pub mod stops;
-// A store in memory whose rows are written by hand.
+// Stores in files: made by SQL, opened by their pages.
 mod stores;
-// Walks over the cells and the calls of a run.
-pub mod walks;
+// What a store tells of all that it holds.
+mod told;

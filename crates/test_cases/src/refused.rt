@@ -1,8 +1,9 @@
 // A list of commands of which one allocation is refused, by tests/by_hand/refuse_each: what meets it is refused as
 // out of memory and changes nothing, the others are answered, and the next call is whole.
+use crate::changes::CALLS;
 use crate::given::Given;
 use crate::holding::holds;
-use crate::stores::{StoreJob, done_over, empty};
+use crate::stores::{StoreJob, done_over_empty};
 use cost_rows::Key;
 use report_texts::Cut;
 use run_stores::RunStore;
@@ -10,11 +11,7 @@ use std::alloc::{AllocError, Global};
 use std::test::Fail;
 use warehouse::{Answer, Command, Kind, Limits, Query, Refusal, Selection, Warehouse};
 
-/// The manual's example of calls.
-pub(crate) const CALLS: &[u8] =
-    b"# callgrind format\nevents: Instructions\n\nfl=file1.c\nfn=main\n16 20\ncfn=func1\ncalls=1 50\n16 400\ncfi=file2.c\ncfn=func2\ncalls=3 20\n16 400\n\nfn=func1\n51 100\ncfi=file2.c\ncfn=func2\ncalls=2 20\n51 300\n\nfl=file2.c\nfn=func2\n20 700\n";
-
-/// What its functions cost.
+/// What the functions of the manual's example cost.
 const COSTS: &[u8] =
     b"by function Instructions\n820 100.00% total\n700 85.36% ???:func2\n100 12.19% ???:func1\n20 2.43% ???:main\n0 0.00% (rest)\n";
 
@@ -127,18 +124,13 @@ struct Again {}
 impl StoreJob for Again {
     type Found = Result<bool, AllocError>;
 
-    fn over<S: RunStore + Drop>(self, alloc: Global, store: S) -> (Result<bool, AllocError>, S) {
+    fn over<S: RunStore + Drop>(self, alloc: Global, store: S) -> Result<bool, AllocError> {
         let mut house = Warehouse::new(store, Limits::standard());
-        let found = is_answered_again(alloc, &mut house);
-        (found, house.into_store())
+        is_answered_again(alloc, &mut house)
     }
 }
 
 pub fn memory_refused_to_run(alloc: Global) -> Result<(), Fail> {
-    let store = match empty(alloc, false) {
-        Ok(store) => store,
-        Err(_) => empty(alloc, false)?,
-    };
-    let (is_answered_again, _) = done_over(alloc, store, Again {});
+    let is_answered_again = done_over_empty(alloc, Again {})?;
     holds(is_answered_again?, "another answer behind a refusal")
 }

@@ -1,26 +1,22 @@
-// A machine that stops at a change of the files of a store that is made, or migrated, by SQL: of the log, of the database
-// file, or of both. Opened again, they tell what they told before or with it, and where it was answered as done, with it.
-use crate::given::Given;
-use crate::refused::CALLS;
-use crate::stores::{StoreJob, done_over};
-use cost_rows::Key;
-use prof_store::Store;
-use report_texts::Cut;
-use run_stores::RunStore;
-use sqlite::{Alter, Connection, FileStore, Options};
+// A machine that stops at a change of the files of a store that is made or migrated by SQL, or changed by its pages: of the
+// log, of the database file, or of both. Opened again, they tell what they told before the step or with it, and with it where
+// it was answered as done.
+use crate::changes::{CHANGES, Change, change_pages};
+use crate::stores::{
+    DatabaseJob, Making, Opening, done_in, pages_in, told_by_pages, told_by_sql,
+};
+use run_stores::Kind;
+use sqlite::{Alter, Connection};
 use sqlite_disk::{Disk, Files};
-use std::alloc::{AllocError, Global};
+use std::alloc::Global;
 use std::test::Fail;
 use stopping_disks::{Image, Left, Meter, Stops, files_of};
-use warehouse::{Answer, Command, Kind, Limits, Query, Selection, Warehouse};
 
-/// Makes a store, imports a file into it, or opens one of version 1.
-#[derive(Clone, Copy)]
-enum Step {
-    Create,
-    Import,
-    Open,
-}
+/// How many pages each of `CHANGES` writes at least: of each table with other rows one, and of each of its indexes.
+const PAGES: [u64; 12] = [12, 8, 2, 2, 2, 2, 2, 1, 18, 12, 4, 13];
+
+/// By SQL every so many stops are looked at too.
+const BY_SQL: u64 = 5;
 
 /// What makes a store of version 1 of one of version 2 whose costs are of thread 0.
 const BACK: [&str; 4] = [
@@ -30,94 +26,56 @@ const BACK: [&str; 4] = [
     "UPDATE meta SET schema = 1",
 ];
 
-/// Opens the database that files hold, or hands them back.
-fn opened<D: Disk + Drop>(
+/// What is done while a machine stops.
+#[derive(Clone, Copy)]
+enum Step {
+    /// A store is made, by SQL.
+    Make,
+    /// One of version 1 is opened, by SQL.
+    Migrate,
+    /// One is changed, by its pages.
+    Change(Change),
+}
+
+impl Step {
+    /// At which stops files are looked at by their pages alone: SQL takes up what is no store of this version.
+    fn is_by_pages(self) -> bool {
+        matches!(self, Step::Change(_))
+    }
+}
+
+/// Opens the store in files, and changes it while so many changes are made of them: whether that is answered as done, and
+/// the files.
+fn changed_in<D: Disk + Drop>(
     alloc: Global,
     files: Files<D>,
-) -> Result<Connection<FileStore<D>>, Files<D>> {
-    if !files.may_be_used() {
-        return Err(files);
-    }
-    match Connection::open_files(alloc, files, Options::new(7)) {
-        Ok(conn) => Ok(conn),
-        Err((_, left)) => Err(left.into_files()),
-    }
+    change: Change,
+    meter: &Meter,
+    changes: u64,
+) -> Result<(bool, Files<D>), Fail> {
+    let mut store = pages_in(alloc, files)?;
+    meter.allow(changes);
+    let is_done = change_pages(&mut store, alloc, change).is_ok();
+    Ok((is_done, store.into_file().close()))
 }
 
-/// Copies the log into the database file, if that can be, and hands both back.
-fn closed<D: Disk + Drop>(conn: Connection<FileStore<D>>) -> Files<D> {
-    match conn.close_files() {
-        Ok(files) => files,
-        Err((_, store)) => store.close(),
-    }
-}
-
-/// A file is imported: whether that is answered as done.
-#[derive(Drop)]
-struct Imported {}
-
-impl StoreJob for Imported {
-    type Found = bool;
-
-    fn over<S: RunStore + Drop>(self, alloc: Global, store: S) -> (bool, S) {
-        let mut house = Warehouse::new(store, Limits::standard());
-        let mut source = Given::sound(CALLS, 4096);
-        let answer = house.import(alloc, Kind::Callgrind, b"a", &mut source);
-        (matches!(answer, Answer::Run(_)), house.into_store())
-    }
-}
-
-/// What is done over a database in files. It is written over any: what is called at the type of a database in files takes a
-/// third of a minute to prove at each call, so that is done in one place.
-trait DatabaseJob {
-    /// What it finds.
-    type Found;
-
-    /// Does it, and hands the database back.
-    fn over<S: Alter + Drop>(
-        self,
-        alloc: Global,
-        conn: Connection<S>,
-    ) -> (Self::Found, Connection<S>);
-}
-
-/// Does a job over the database in files: what it finds, where they hold one that is opened, and the files behind it.
-fn done_in<D: Disk + Drop, J: DatabaseJob + Drop>(
+/// Does a step while so many changes are made of files: whether that is answered as done, and the files.
+fn stepped_in<D: Disk + Drop>(
     alloc: Global,
     files: Files<D>,
-    job: J,
-) -> (Option<J::Found>, Files<D>) {
-    match opened(alloc, files) {
-        Ok(conn) => {
-            let (found, conn) = job.over(alloc, conn);
-            (Some(found), closed(conn))
-        }
-        Err(files) => (None, files),
-    }
-}
-
-/// A step is done: whether that is answered so.
-#[derive(Drop)]
-struct Doing {
     step: Step,
-}
-
-impl DatabaseJob for Doing {
-    type Found = bool;
-
-    fn over<S: Alter + Drop>(self, alloc: Global, conn: Connection<S>) -> (bool, Connection<S>) {
-        let opened = match self.step {
-            Step::Create => Store::create(alloc, conn),
-            _ => Store::open(alloc, conn),
-        };
-        match opened {
-            Ok(store) => match self.step {
-                Step::Import => done_over(alloc, store, Imported {}),
-                _ => (true, store.into_connection()),
-            },
-            Err((_, conn)) => (false, conn),
-        }
+    meter: &Meter,
+    changes: u64,
+) -> Result<(bool, Files<D>), Fail> {
+    if let Step::Change(change) = step {
+        return changed_in(alloc, files, change, meter, changes);
     }
+    meter.allow(changes);
+    let (is_done, files) = match step {
+        Step::Make => done_in(alloc, files, Making {}),
+        _ => done_in(alloc, files, Opening {}),
+    };
+    Ok((matches!(is_done, Some(true)), files))
 }
 
 /// What a step comes to over files that stop.
@@ -135,138 +93,95 @@ fn ended_by(
     step: Step,
     stops: Stops,
     changes: u64,
-) -> Result<Ended, AllocError> {
+) -> Result<Ended, Fail> {
     let meter = Meter::new(alloc, stops)?;
-    meter.allow(changes);
     let files = files_of(alloc, &image.log, &image.database, 0, &meter)?;
-    let (is_done, files) = done_in(alloc, files, Doing { step });
+    let (is_done, files) = stepped_in(alloc, files, step, &meter, changes)?;
     Ok(Ended {
-        is_done: matches!(is_done, Some(true)),
+        is_done,
         has_stopped: meter.is_spent(),
         left: Left::of(files),
     })
 }
 
-/// What all runs cost by function.
-fn by_function<'a>(event: &'a [u8]) -> Query<&'a [u8]> {
-    Query::By {
-        selection: Selection::All,
-        key: Key::Function,
-        event,
-        cut: Cut {
-            limit: None,
-            threshold: 100,
-        },
-    }
+/// By what files are read.
+#[derive(Clone, Copy)]
+enum Reader {
+    Pages,
+    Sql,
 }
 
-/// Adds what a question is answered: a text behind a 1, or a 2 for a refusal.
-fn ask<S: RunStore>(
-    alloc: Global,
-    house: &mut Warehouse<S>,
-    query: Query<&[u8]>,
-    told: &mut Vec<u8>,
-) -> Result<(), AllocError> {
-    match house.apply::<Given>(alloc, Command::Ask(query)) {
-        Answer::Text(text) => {
-            told.push(1)?;
-            told.extend_from_slice(text.to_list(alloc)?.as_slice())
-        }
-        _ => Ok(told.push(2)?),
-    }
-}
-
-/// What a warehouse tells of runs, groups, sums and costs.
-fn told_of<S: RunStore>(alloc: Global, house: &mut Warehouse<S>) -> Result<Vec<u8>, AllocError> {
-    let mut told = Vec::new(alloc);
-    ask(alloc, house, Query::Runs, &mut told)?;
-    ask(alloc, house, Query::Groups, &mut told)?;
-    ask(alloc, house, Query::Verify(Selection::All), &mut told)?;
-    ask(alloc, house, by_function(b"Instructions"), &mut told)?;
+/// What files tell.
+fn told_in(alloc: Global, log: &[u8], database: &[u8], by: Reader) -> Result<Vec<u8>, Fail> {
+    let meter = Meter::new(alloc, Stops::Both)?;
+    let files = files_of(alloc, log, database, 0, &meter)?;
+    let told = match by {
+        Reader::Pages => told_by_pages(alloc, files)?,
+        Reader::Sql => told_by_sql(alloc, files)?,
+    };
     Ok(told)
 }
 
-/// It is told.
+/// What is told before a step, and after it.
 #[derive(Drop)]
-struct Telling {}
+struct Told {
+    before: Vec<u8>,
+    after: Vec<u8>,
+}
 
-impl StoreJob for Telling {
-    type Found = Result<Vec<u8>, &'static str>;
-
-    fn over<S: RunStore + Drop>(
-        self,
-        alloc: Global,
-        store: S,
-    ) -> (Result<Vec<u8>, &'static str>, S) {
-        let mut house = Warehouse::new(store, Limits::standard());
-        let told = match told_of(alloc, &mut house) {
-            Ok(told) => Ok(told),
-            Err(_) => Err("no memory to tell"),
-        };
-        (told, house.into_store())
+impl Told {
+    /// Whether that may be told, where the step is answered as done or not.
+    fn allows(&self, is_done: bool, told: &[u8]) -> bool {
+        told == self.after.as_slice() || (!is_done && told == self.before.as_slice())
     }
 }
 
-/// What the store in a database tells; nothing where there is none, and then one can be made.
-#[derive(Drop)]
-struct TellingAll {}
-
-impl DatabaseJob for TellingAll {
-    type Found = Result<Vec<u8>, &'static str>;
-
-    fn over<S: Alter + Drop>(
-        self,
-        alloc: Global,
-        conn: Connection<S>,
-    ) -> (Result<Vec<u8>, &'static str>, Connection<S>) {
-        match Store::open(alloc, conn) {
-            Ok(store) => done_over(alloc, store, Telling {}),
-            Err((_, conn)) => match Store::create(alloc, conn) {
-                Ok(store) => (Ok(Vec::new(alloc)), store.into_connection()),
-                Err((_, conn)) => (Err("a store that is half made"), conn),
-            },
-        }
+/// Whether files may be left by a stop over an image.
+fn is_right(
+    alloc: Global,
+    image: &Image,
+    files: (&[u8], &[u8]),
+    is_done: bool,
+    told: &Told,
+    by: Reader,
+) -> Result<bool, Fail> {
+    if files.0 == image.log.as_slice() && files.1 == image.database.as_slice() {
+        return Ok(told.allows(is_done, &told.before));
     }
+    Ok(told.allows(is_done, &told_in(alloc, files.0, files.1, by)?))
 }
 
-/// The same of files.
-fn told_by(alloc: Global, log: &[u8], database: &[u8]) -> Result<Vec<u8>, Fail> {
-    let meter = Meter::new(alloc, Stops::Both)?;
-    let files = files_of(alloc, log, database, 0, &meter)?;
-    let (told, _files) = done_in(alloc, files, TellingAll {});
-    match told {
-        Some(told) => Ok(told?),
-        None => Err("the files cannot be opened")?,
-    }
-}
-
-/// Whether what a stop left tells what it has to, by what was told before the step and is told with it.
-fn is_right(alloc: Global, ended: &Ended, before: &[u8], after: &[u8]) -> Result<bool, Fail> {
+/// Looks at what a stop over an image left.
+fn look_at(
+    alloc: Global,
+    image: &Image,
+    ended: &Ended,
+    told: &Told,
+    by: Reader,
+) -> Result<(), Fail> {
     for (log, database, is_another) in ended.left.images() {
-        if is_another {
-            let told = told_by(alloc, log, database)?;
-            let told = told.as_slice();
-            if told != after && (ended.is_done || told != before) {
-                return Ok(false);
-            }
+        if is_another && !is_right(alloc, image, (log, database), ended.is_done, told, by)? {
+            return Err("neither as before nor as after it")?;
         }
     }
-    Ok(true)
+    Ok(())
 }
 
-/// Stops at each change of a step in turn: how many there were before it ended without a stop.
+/// Stops at each change of the files in turn: how many there were before it ended without a stop.
 fn stops_of(
     alloc: Global,
     image: &Image,
     step: Step,
     stops: Stops,
-    before: &[u8],
-    after: &[u8],
+    told: &Told,
 ) -> Result<u64, Fail> {
     for changes in 0..10000u64 {
         let ended = ended_by(alloc, image, step, stops, changes)?;
-        if !is_right(alloc, &ended, before, after)? {
-            Err("neither before nor with it")?;
+        if step.is_by_pages() {
+            look_at(alloc, image, &ended, told, Reader::Pages)?;
+        }
+        if !step.is_by_pages() || changes % BY_SQL == 0 {
+            look_at(alloc, image, &ended, told, Reader::Sql)?;
         }
         if !ended.has_stopped {
             return Ok(changes);
@@ -275,31 +190,72 @@ fn stops_of(
     Err("no end")?
 }
 
-/// Does a step without a stop: what it leaves.
-fn done_on(alloc: Global, image: &Image, step: Step) -> Result<Image, Fail> {
+/// What a step leaves that is done without a stop.
+fn done(alloc: Global, image: &Image, step: Step) -> Result<Image, Fail> {
     let Ended {
         is_done,
         has_stopped: _,
         left,
     } = ended_by(alloc, image, step, Stops::Both, u64::MAX)?;
     if !is_done {
-        Err("the step is not done")?;
+        return Err("it is not done")?;
     }
     Ok(left.into_written())
 }
 
-/// Stops at each change of the making of a store: what it leaves.
-fn making_stops(alloc: Global, stops: Stops) -> Result<Image, Fail> {
-    let empty = Image::empty(alloc);
-    let made = done_on(alloc, &empty, Step::Create)?;
-    let before = told_by(alloc, &empty.log, &empty.database)?;
-    let after = told_by(alloc, &made.log, &made.database)?;
-    let (before, after) = (before.as_slice(), after.as_slice());
-    if before == after {
-        Err("that it is made does not show")?;
+/// What is told before a change and after it. Only the copying of the log does not show.
+fn told_around(alloc: Global, image: &Image, change: Change, after: &Image) -> Result<Told, Fail> {
+    let told = Told {
+        before: told_in(alloc, &image.log, &image.database, Reader::Pages)?,
+        after: told_in(alloc, &after.log, &after.database, Reader::Pages)?,
+    };
+    let shows = told.before.as_slice() != told.after.as_slice();
+    if shows == matches!(change, Change::Checkpoint) {
+        return Err("it does not show, or a checkpoint does")?;
     }
-    if stops_of(alloc, &empty, Step::Create, stops, before, after)? < 2 {
-        Err("it changes no file")?;
+    Ok(told)
+}
+
+/// At least how many stops there are while a change writes so many pages: before each page, before they are synced, and
+/// behind it all. Only the copying of the log writes the database file.
+fn least_stops(change: Change, stops: Stops, pages: u64) -> u64 {
+    let writes_log = !matches!(change, Change::Checkpoint);
+    match (stops, writes_log) {
+        (Stops::Log, false) | (Stops::Database, true) => 1,
+        _ => pages.saturating_add(2),
+    }
+}
+
+/// Stops at each change of the files while a change of a store over an image is done, which writes so many pages.
+fn stops_within(
+    alloc: Global,
+    image: &Image,
+    change: Change,
+    stops: Stops,
+    pages: u64,
+) -> Result<(), Fail> {
+    let step = Step::Change(change);
+    let after = done(alloc, image, step)?;
+    let told = told_around(alloc, image, change, &after)?;
+    drop(after);
+    let count = stops_of(alloc, image, step, stops, &told);
+    drop(told);
+    if count? < least_stops(change, stops, pages) {
+        return Err("it writes too few pages")?;
+    }
+    Ok(())
+}
+
+/// Stops at each change of the files while a store is made: what it leaves.
+fn made(alloc: Global, stops: Stops) -> Result<Image, Fail> {
+    let empty = Image::empty(alloc);
+    let made = done(alloc, &empty, Step::Make)?;
+    let told = Told {
+        before: Vec::new(alloc),
+        after: told_in(alloc, &made.log, &made.database, Reader::Pages)?,
+    };
+    if stops_of(alloc, &empty, Step::Make, stops, &told)? < 2 {
+        return Err("it changes no file")?;
     }
     Ok(made)
 }
@@ -311,7 +267,7 @@ struct MakingFirst {}
 impl DatabaseJob for MakingFirst {
     type Found = bool;
 
-    fn over<S: Alter + Drop>(self, _alloc: Global, conn: Connection<S>) -> (bool, Connection<S>) {
+    fn over<S: Alter + Drop>(self, conn: Connection<S>) -> (bool, Connection<S>) {
         let mut conn = conn;
         for text in BACK {
             if conn.execute(text, &[]).is_err() {
@@ -328,28 +284,40 @@ fn as_first(alloc: Global, image: &Image) -> Result<Image, Fail> {
     let files = files_of(alloc, &image.log, &image.database, 0, &meter)?;
     let (is_made, files) = done_in(alloc, files, MakingFirst {});
     if !matches!(is_made, Some(true)) {
-        Err("no store of version 1")?;
+        return Err("no store of version 1")?;
     }
     Ok(Left::of(files).into_written())
 }
 
-/// Stops at each change of the opening of a store of version 1, which tells what it told before.
-fn opening_stops(alloc: Global, image: &Image, stops: Stops) -> Result<(), Fail> {
-    let told = told_by(alloc, &image.log, &image.database)?;
+/// Stops at each change of the files while a store of version 1 is opened, which tells what it told before.
+fn migrated(alloc: Global, image: &Image, stops: Stops) -> Result<(), Fail> {
+    let told = Told {
+        before: told_in(alloc, &image.log, &image.database, Reader::Pages)?,
+        after: told_in(alloc, &image.log, &image.database, Reader::Pages)?,
+    };
     let first = as_first(alloc, image)?;
-    done_on(alloc, &first, Step::Open)?;
-    let told = told.as_slice();
-    if stops_of(alloc, &first, Step::Open, stops, told, told)? < 2 {
-        Err("it changes no file")?;
+    done(alloc, &first, Step::Migrate)?;
+    if stops_of(alloc, &first, Step::Migrate, stops, &told)? < 2 {
+        return Err("it changes no file")?;
     }
     Ok(())
 }
 
-/// Stops at each change of the making of a store, and of the opening of one of version 1.
+/// Stops at each change of the files while a store is made, opened as one of version 1 once a file is in it, and changed.
 fn all_stops(alloc: Global, stops: Stops) -> Result<(), Fail> {
-    let made = making_stops(alloc, stops)?;
-    let filled = done_on(alloc, &made, Step::Import)?;
-    opening_stops(alloc, &filled, stops)
+    let mut image = made(alloc, stops)?;
+    for (change, pages) in CHANGES.into_iter().zip(PAGES) {
+        stops_within(alloc, &image, change, stops, pages)?;
+        image = done(alloc, &image, Step::Change(change))?;
+        if matches!(change, Change::Import(Kind::Callgrind, _)) {
+            migrated(alloc, &image, stops)?;
+        }
+    }
+    Ok(())
+}
+
+pub fn both_files_stop(alloc: Global) -> Result<(), Fail> {
+    all_stops(alloc, Stops::Both)
 }
 
 pub fn the_log_stops(alloc: Global) -> Result<(), Fail> {
@@ -358,8 +326,4 @@ pub fn the_log_stops(alloc: Global) -> Result<(), Fail> {
 
 pub fn the_database_file_stops(alloc: Global) -> Result<(), Fail> {
     all_stops(alloc, Stops::Database)
-}
-
-pub fn both_files_stop(alloc: Global) -> Result<(), Fail> {
-    all_stops(alloc, Stops::Both)
 }

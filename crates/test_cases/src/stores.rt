@@ -1,136 +1,203 @@
-// A store in memory whose rows are written by hand. No guarantees: what the tests over it want fails where it is
-// another.
-use crate::given::Given;
-use prof_store::{Store, StoreError};
-use run_stores::RunStore;
-use sql_runs::SqlRuns;
-use sqlite::{Alter, Connection, MemStore, params};
-use std::alloc::Global;
-use std::test::Fail;
-use warehouse::{Answer, Command, Limits, Warehouse};
+// Stores in files: made by SQL, opened by their pages. No guarantees: the tests see what the stores tell.
+use crate::told::told_by;
+use page_runs::PageRuns;
+use prof_store::Store;
+use run_stores::{RunStore, StoreError};
+use sqlite::{Alter, Connection, FileStore};
+use sqlite_disk::{Disk, Files};
+use sqlite_pager::Options;
+use std::alloc::{AllocError, Global};
+use stopping_disks::{Meter, Stopping, Stops, files_of};
 
-// What is done to a database is written over any: what is called at the type of one takes many seconds to prove at each call.
+/// How many bytes a file has room for, so that it is never the disk that wants memory.
+const ROOM: usize = 0x8_0000;
 
-/// A store in which a text was run, with the run 1, the names `a` (1), `b` (2), `c` (3) and `g` (7), and
-/// cells of the run on the lines 1, 2, .., each of which costs as much as its line says.
-fn filled_in<S: Alter + Drop>(
+/// A change that writes more than a few pages has some in the log before it is committed.
+fn options() -> Options {
+    let mut options = Options::new(7);
+    options.cache_pages = 20;
+    options.spill_pages = 8;
+    options
+}
+
+/// Opens the database in files, or hands them back.
+fn database_in<D: Disk + Drop>(
     alloc: Global,
-    conn: Connection<S>,
-    text: &str,
-    cells: u32,
-) -> Result<Store<S>, StoreError> {
-    let mut conn = match Store::create(alloc, conn) {
-        Ok(store) => store.into_connection(),
-        Err(_) => return Err(StoreError::Store),
-    };
-    for text in [
-        "INSERT INTO run VALUES (1, 1, x'01', 'a', 0)",
-        "INSERT INTO name VALUES (1, x'61'), (2, x'62'), (3, x'63'), (7, x'67')",
-        text,
-    ] {
-        if conn.execute(text, &[]).is_err() {
-            return Err(StoreError::Store);
-        }
+    files: Files<D>,
+) -> Result<Connection<FileStore<D>>, Files<D>> {
+    if !files.may_be_used() {
+        return Err(files);
     }
-    for line in 1..=cells {
-        let text = "INSERT INTO thread_cell VALUES (1, 5, 1, 2, 3, ?1, 0, ?1)";
-        if conn.execute(text, params![line]).is_err() {
-            return Err(StoreError::Store);
-        }
-    }
-    match Store::open(alloc, conn) {
-        Ok(store) => Ok(store),
-        Err(_) => Err(StoreError::Store),
+    match Connection::open_files(alloc, files, options()) {
+        Ok(conn) => Ok(conn),
+        Err((_, left)) => Err(left.into_files()),
     }
 }
 
-/// The same in memory.
-pub(crate) fn filled(alloc: Global, text: &str, cells: u32) -> Result<Store<MemStore>, StoreError> {
-    match Connection::open_in_memory(alloc) {
-        Ok(conn) => filled_in(alloc, conn, text, cells),
-        Err(_) => Err(StoreError::Memory),
+/// Copies the log into the database file, if that can be, and hands both back.
+fn closed<D: Disk + Drop>(conn: Connection<FileStore<D>>) -> Files<D> {
+    match conn.close_files() {
+        Ok(files) => files,
+        Err((_, store)) => store.close(),
     }
 }
 
-/// A store without rows, which has an open transaction or not.
-fn empty_in<S: Alter + Drop>(
-    alloc: Global,
-    conn: Connection<S>,
-    is_within: bool,
-) -> Result<Store<S>, StoreError> {
-    let mut conn = match Store::create(alloc, conn) {
-        Ok(store) => store.into_connection(),
-        Err(_) => return Err(StoreError::Store),
-    };
-    if is_within && conn.execute("BEGIN", &[]).is_err() {
-        return Err(StoreError::Store);
-    }
-    match Store::open(alloc, conn) {
-        Ok(store) => Ok(store),
-        Err(_) => Err(StoreError::Store),
-    }
-}
-
-/// The same in memory.
-pub(crate) fn empty(alloc: Global, is_within: bool) -> Result<Store<MemStore>, StoreError> {
-    match Connection::open_in_memory(alloc) {
-        Ok(conn) => empty_in(alloc, conn, is_within),
-        Err(_) => Err(StoreError::Memory),
-    }
-}
-
-/// Changes rows by SQL.
-pub(crate) fn execute<S: Alter>(conn: &mut Connection<S>, text: &str) -> Result<(), Fail> {
-    if conn.execute(text, &[]).is_err() {
-        Err("the rows are not changed")?;
-    }
-    Ok(())
-}
-
-/// What is done over a store. It is written over any: what is called at the type of a store takes a third of a minute to prove
+/// What is done over a database. It is written over any: what is called at the type of one in files takes half a minute to prove
 /// at each call, so that is done in one place.
+pub(crate) trait DatabaseJob {
+    /// What it finds.
+    type Found: Drop;
+
+    /// Does it, and hands the database back.
+    fn over<S: Alter + Drop>(self, conn: Connection<S>) -> (Self::Found, Connection<S>);
+}
+
+/// Does a job over the database in files: what it finds, where they hold one that is opened, and the files behind it.
+pub(crate) fn done_in<D: Disk + Drop, J: DatabaseJob + Drop>(
+    alloc: Global,
+    files: Files<D>,
+    job: J,
+) -> (Option<J::Found>, Files<D>) {
+    match database_in(alloc, files) {
+        Ok(conn) => {
+            let (found, conn) = job.over(conn);
+            (Some(found), closed(conn))
+        }
+        Err(files) => (None, files),
+    }
+}
+
+/// A store is made in an empty database: whether it is.
+#[derive(Drop)]
+pub(crate) struct Making {}
+
+impl DatabaseJob for Making {
+    type Found = bool;
+
+    fn over<S: Alter + Drop>(self, conn: Connection<S>) -> (bool, Connection<S>) {
+        match Store::create(conn) {
+            Ok(store) => (true, store.into_connection()),
+            Err((_, conn)) => (false, conn),
+        }
+    }
+}
+
+/// A store is opened, and one of version 1 brought up: whether it is.
+#[derive(Drop)]
+pub(crate) struct Opening {}
+
+impl DatabaseJob for Opening {
+    type Found = bool;
+
+    fn over<S: Alter + Drop>(self, conn: Connection<S>) -> (bool, Connection<S>) {
+        match Store::open(conn) {
+            Ok(store) => (true, store.into_connection()),
+            Err((_, conn)) => (false, conn),
+        }
+    }
+}
+
+/// Makes a store in empty files, and hands the files back.
+pub(crate) fn made_in<D: Disk + Drop>(
+    alloc: Global,
+    files: Files<D>,
+) -> Result<Files<D>, &'static str> {
+    match done_in(alloc, files, Making {}) {
+        (Some(true), files) => Ok(files),
+        _ => Err("no store is made"),
+    }
+}
+
+/// Opens the store in files by its pages.
+pub(crate) fn pages_in<D: Disk + Drop>(
+    alloc: Global,
+    files: Files<D>,
+) -> Result<PageRuns<D>, &'static str> {
+    if !files.may_be_used() {
+        return Err("a file has failed");
+    }
+    match PageRuns::open(alloc, files, options(), 0) {
+        Ok(store) => Ok(store),
+        Err(_) => Err("no store in pages"),
+    }
+}
+
+/// Empty files.
+fn empty_files(alloc: Global) -> Result<Files<Stopping>, AllocError> {
+    let meter = Meter::new(alloc, Stops::Both)?;
+    files_of(alloc, &[], &[], ROOM, &meter)
+}
+
+/// A store in pages, empty.
+fn empty_pages(alloc: Global) -> Result<PageRuns<Stopping>, &'static str> {
+    let Ok(files) = empty_files(alloc) else {
+        return Err("no memory for files");
+    };
+    pages_in(alloc, made_in(alloc, files)?)
+}
+
+/// The same, made again where memory is refused.
+pub(crate) fn new_pages(alloc: Global) -> Result<PageRuns<Stopping>, &'static str> {
+    match empty_pages(alloc) {
+        Ok(store) => Ok(store),
+        Err(_) => empty_pages(alloc),
+    }
+}
+
+/// What is done over a store. It is written over any: what is called at the type of one takes a third of a minute to prove at
+/// each call, so that is done in one place.
 pub(crate) trait StoreJob {
     /// What it finds.
-    type Found;
+    type Found: Drop;
 
-    /// Does it, and hands the store back.
-    fn over<S: RunStore + Drop>(self, alloc: Global, store: S) -> (Self::Found, S);
+    /// Does it.
+    fn over<S: RunStore + Drop>(self, alloc: Global, store: S) -> Self::Found;
 }
 
-/// Does a job over the store of a database.
-pub(crate) fn done_over<S: Alter + Drop, J: StoreJob>(
+/// Does a job over an empty store.
+pub(crate) fn done_over_empty<J: StoreJob + Drop>(
     alloc: Global,
-    store: Store<S>,
     job: J,
-) -> (J::Found, Connection<S>) {
-    let (found, runs) = job.over(alloc, SqlRuns { store });
-    (found, runs.into_connection())
+) -> Result<J::Found, &'static str> {
+    let store = new_pages(alloc)?;
+    Ok(job.over(alloc, store))
 }
 
-/// A command is done.
-#[derive(Drop)]
-struct Applied<'a> {
-    command: Command<Given, &'a [u8]>,
+/// All that a store in pages tells.
+pub(crate) fn told_of_pages<D: Disk>(
+    store: &mut PageRuns<D>,
+    alloc: Global,
+) -> Result<Vec<u8>, StoreError> {
+    told_by(store, alloc)
 }
 
-impl StoreJob for Applied<'_> {
-    type Found = Answer;
-
-    fn over<S: RunStore + Drop>(self, alloc: Global, store: S) -> (Answer, S) {
-        let mut house = Warehouse::new(store, Limits::standard());
-        let answer = house.apply(alloc, self.command);
-        (answer, house.into_store())
+/// What files tell by their pages.
+pub(crate) fn told_by_pages<D: Disk + Drop>(
+    alloc: Global,
+    files: Files<D>,
+) -> Result<Vec<u8>, &'static str> {
+    let mut store = pages_in(alloc, files)?;
+    let told = told_of_pages(&mut store, alloc);
+    // (a store that is let go by a call is faster to prove)
+    drop(store);
+    match told {
+        Ok(told) => Ok(told),
+        Err(_) => Err("by its pages the store is not read"),
     }
 }
 
-/// Does a command over the store of a database.
-pub(crate) fn answered<S: Alter + Drop>(
+/// The same of files that SQL took up before: of a store of version 1 what it tells when it is brought up, and nothing where no
+/// store is, but one can be made.
+pub(crate) fn told_by_sql<D: Disk + Drop>(
     alloc: Global,
-    conn: Connection<S>,
-    command: Command<Given, &[u8]>,
-) -> Result<(Answer, Connection<S>), Fail> {
-    match Store::open(alloc, conn) {
-        Ok(store) => Ok(done_over(alloc, store, Applied { command })),
-        Err(_) => Err("no store")?,
+    files: Files<D>,
+) -> Result<Vec<u8>, &'static str> {
+    match done_in(alloc, files, Opening {}) {
+        (Some(true), files) => told_by_pages(alloc, files),
+        (Some(false), files) => {
+            drop(made_in(alloc, files)?);
+            Ok(Vec::new(alloc))
+        }
+        (None, _) => Err("no database"),
     }
 }

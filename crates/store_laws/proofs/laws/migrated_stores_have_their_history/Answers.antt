@@ -3,10 +3,7 @@ use Rattle.histories.proofs.Marks.{marked_at_end}
 use Rattle.store_laws.proofs.laws.migrated_stores_have_their_history.Goals as goal
 
 pub returns-clause-opened : goal.returns-clause-opened
-returns-clause-opened g c h conn store was opened = (
-  record { legal = was.agrees.legal; represents = λ usable. record { t = was.t; represents = opened.first refl was.t was.rests; agrees = was.agrees } },
-  marked_at_end h was.by_first,
-)
+returns-clause-opened g c h conn next was opened = (record { t = was.t; rests = opened.first refl was.t was.rests; agrees = was.agrees }, marked_at_end h was.by_first)
 
 pub returns-clause-crash : goal.returns-clause-crash
 returns-clause-crash g c is_done h conn next was opened db may = elim (opened.first_crash was.t was.rests db may) [

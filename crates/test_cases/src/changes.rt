@@ -8,7 +8,7 @@ use sqlite_disk::Disk;
 use std::alloc::Global;
 
 /// The manual's example of calls.
-const CALLS: &[u8] =
+pub(crate) const CALLS: &[u8] =
     b"# callgrind format\nevents: Instructions\n\nfl=file1.c\nfn=main\n16 20\ncfn=func1\ncalls=1 50\n16 400\ncfi=file2.c\ncfn=func2\ncalls=3 20\n16 400\n\nfn=func1\n51 100\ncfi=file2.c\ncfn=func2\ncalls=2 20\n51 300\n\nfl=file2.c\nfn=func2\n20 700\n";
 
 /// Stacks in which a frame calls itself.
@@ -72,7 +72,7 @@ fn import<S: RunStore>(
     kind: Kind,
     text: &'static [u8],
 ) -> Result<(), StoreError> {
-    let mut source = Given { left: text };
+    let mut source = Given::sound(text, 4096);
     match parse_file(alloc, kind, LONGEST, &mut source) {
         Ok(parsed) => {
             let put = put_file(store, alloc, kind, &parsed);

@@ -1,30 +1,12 @@
 // A store in pages of which one allocation is refused, by tests/by_hand/refuse_each: the call that meets it says so and changes
 // nothing, and the next call goes on.
 use crate::changes::{CHANGES, Change, change_pages};
-use crate::stores::{made_in, pages_in, told_of_pages};
+use crate::stores::{new_pages, told_of_pages};
 use page_runs::PageRuns;
 use run_stores::StoreError;
-use sqlite_disk::{Disk, Files};
-use std::alloc::{AllocError, Global};
+use sqlite_disk::Disk;
+use std::alloc::Global;
 use std::test::Fail;
-use stopping_disks::{Meter, Stopping, Stops, files_of};
-
-/// How many bytes a file has room for, so that it is never the disk that wants memory.
-const ROOM: usize = 0x8_0000;
-
-/// Empty files.
-fn empty_files(alloc: Global) -> Result<Files<Stopping>, AllocError> {
-    let meter = Meter::new(alloc, Stops::Both)?;
-    files_of(alloc, &[], &[], ROOM, &meter)
-}
-
-/// A store in pages, empty.
-fn empty_pages(alloc: Global) -> Result<PageRuns<Stopping>, &'static str> {
-    let Ok(files) = empty_files(alloc) else {
-        return Err("no memory for files");
-    };
-    pages_in(alloc, made_in(alloc, files)?)
-}
 
 /// What a store tells, asked again where memory is refused.
 fn told_again<D: Disk>(store: &mut PageRuns<D>, alloc: Global) -> Result<Vec<u8>, StoreError> {
@@ -70,17 +52,9 @@ fn change_both<D: Disk>(
     Ok(())
 }
 
-/// A store is made again where memory is refused.
-fn made_again(alloc: Global) -> Result<PageRuns<Stopping>, &'static str> {
-    match empty_pages(alloc) {
-        Ok(store) => Ok(store),
-        Err(_) => empty_pages(alloc),
-    }
-}
-
 pub fn memory_refused_to_change_pages(alloc: Global) -> Result<(), Fail> {
-    let mut first = made_again(alloc)?;
-    let mut second = match made_again(alloc) {
+    let mut first = new_pages(alloc)?;
+    let mut second = match new_pages(alloc) {
         Ok(store) => store,
         Err(end) => {
             // (a store that is let go by a call is faster to prove, here and below)
