@@ -94,7 +94,6 @@ module _ {D : Type 0} {g : Ghosts D} where
         record { is_db = stands.is_db; rooted = record { low = low; shape = shape; plain = plain; root_is = root_is ∙ ap (λ l. slice_index l t) stands.known_are } }
 
   module _ (it : PageFile D g) {wanted : List Wanted} {known : List ℕ} {was now : Trees} (writes : Writes wanted known was now it) {t root : ℕ} where
-
     -- one of the shape of an index is one
     pub index_in : {order : Order} → IsTreeAt wanted known t (Index order) root → reals_at wanted t ≡ 0 → ShowsIndex wanted t order root it
     index_in is plain = index_stands it (stands_writing it writes) t is.low root is.shape_is plain (sym is.root_is)

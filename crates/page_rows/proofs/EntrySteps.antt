@@ -38,7 +38,6 @@ pub record IsAmid {A S : Type 0} (Has : A → List Row → S → Type 0) (layout
       → IsBehind Has start (shown_of (left_in pages batch) ++ rest) sink all
 
 module _ {A S : Type 0} (Has Ends : A → List Row → S → Type 0) (layout : Layout) (size : ℕ) (pages : PageMap) where
-
   module _ (first old new : Batch) (begun sink : S) (amid : IsAmid Has layout size pages first old begun sink) where
     -- none is left
     pub handed_all : TookFirst layout size pages old new false → (start : A) (rest all : List Row) → IsBehind Has start (shown_of (left_in pages first) ++ rest) begun all

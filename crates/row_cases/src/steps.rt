@@ -178,10 +178,7 @@ fn made_in<D: Disk + Drop>(alloc: Global, files: Files<D>) -> Result<Files<D>, &
 }
 
 /// The store in files, by its pages.
-fn opened_in<D: Disk + Drop>(
-    alloc: Global,
-    files: Files<D>,
-) -> Result<PageRuns<D>, &'static str> {
+fn opened_in<D: Disk + Drop>(alloc: Global, files: Files<D>) -> Result<PageRuns<D>, &'static str> {
     if !files.may_be_used() {
         return Err("no files");
     }

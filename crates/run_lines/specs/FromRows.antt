@@ -30,7 +30,6 @@ line_of_stack run r = record { run = run; frames = r.stack.now; count = r.count 
 -- ---- the lines of a row of calls
 
 module _ (run : ℕ) (numbers : List ℕ) (row : ArcRow ℕ (Bor (List ℕ))) where
-
   -- of all parts
   abbrev pub row_lines : List StoredCall
   row_lines = call_rows_at run numbers (call_of_call row) (calls_of_call row)

@@ -48,7 +48,6 @@ inside_kept sql params old new (Err e) (inr h) is_open = (h.2.0.was_open, h.2.0.
 
 -- a statement that writes, as a schema understands it
 module _ (schema : Schema) (sql : List ℕ) (params : Row) (command : Command) (means : command_of (understood schema sql) ≡ command) (plain : IsPlain (understood schema sql)) (writes : IsWrite command) where
-
   -- what it makes of tables that P holds of
   module _ (P Q : Trees → Type 0)
       (makes : (limit : Option ℕ) (trees : Trees) (text : List ℕ) (tally : Tally) (after : Database) → P trees → IsDatabase after
