@@ -17,7 +17,6 @@ cleared_all n [] none = refl
 cleared_all n (g ∷ groups) none = let parts = or_parts (has_baseline n g) (list_any (has_baseline n) groups) none in ap₂ ◌∷◌ (ap (λ b. if b then unbased g else g) parts.0) (cleared_all n groups parts.1)
 
 module _ (t : Tables) (db next : Trees) (was : Holds t db) (n : ℕ) (id : ℤ) (g : GroupRow) (there : Has (db 19) (Int id ∷ group_columns g)) where
-
   -- with all others cleared too, it is as if it had been cleared among them
   pub still_to_clear : has_baseline n g ≡ true → map (cleared n) (map (λ x. if is_named g.name x then unbased x else x) t.groups) ≡ map (cleared n) t.groups
   still_to_clear based = each t.groups (λ x has_x. one_of_name t db was id g there x has_x)

@@ -47,7 +47,6 @@ only_from schema table trees old new own sound spared indexed = record {
 }
 
 module _ (db next : Trees) (sound : IsSound schema_two db) where
-
   pub only_events : SparesBut (3 ∷ 4 ∷ 5 ∷ []) db next → IsIndexOf (1 ∷ 2 ∷ []) (next 3) (next 4) → IsIndexOf (1 ∷ 3 ∷ []) (next 3) (next 5) → OnlyChanges schema_two db next run_event_at
   only_events spared first second = only_from schema_two run_event_at (3 ∷ 4 ∷ 5 ∷ []) db next (record { list = refl; tables = refl; indexes = refl }) sound spared (tt, (first, (second, (tt, (tt, (tt, (tt, (tt, (tt, (tt, (tt, (tt, tt))))))))))))
 

@@ -7,7 +7,6 @@ use Rattle.std.specs.Map.{lookup, values_of}
 use Rattle.std.specs.Ordering.{nat_cmp}
 
 module _ {V : Type 0} (old new : BTreeMap ℕ V) (key : ℕ) (value : V) where
-
   pub sum_with : (f : V → ℕ) → new.entries ≡ insert_entry nat_cmp old.entries key value → IsOrdered nat_cmp old → sum_by f (values new) ≤ sum_by f (values old) + f value
   sum_with f is ordered =
       let sums = sum_by-insert_entry f nat_cmp_total old.entries key value ordered in

@@ -15,9 +15,7 @@ impl<S: Alter> Store<S> {
     /// Makes a new store, in one transaction, in a database that has no table. `WrongSchema` says that it
     /// has some; `Store` answers a connection within a transaction too. A refusal changes nothing and hands
     /// the connection back.
-    pub fn create(
-        mut conn: Connection<S>,
-    ) -> Result<Store<S>, (OpenError, Connection<S>)>
+    pub fn create(mut conn: Connection<S>) -> Result<Store<S>, (OpenError, Connection<S>)>
         ensures made { IfOk result (λ store. IsFaithful S.Store store → Creates true (state S.Store conn) (shown S.Store store)) }
         ensures refused { IfErr result (λ e. HasCleanDisk (state S.Store e.1) → Creates false (state S.Store conn) (state S.Store e.1)) }
         ensures wrong { IfErr result (λ e. (e.0 ≡ ends.WrongSchema) ↔ (¬ ((state S.Store conn).now.schema ≡ empty_schema))) }

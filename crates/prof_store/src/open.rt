@@ -95,9 +95,7 @@ impl<S: Alter> Store<S> {
     /// crash leaves the one or the other. `WrongSchema`: the number is neither, or there is none. `Memory` and
     /// `Store`: the tables could not be read, or not be brought up. A refusal changes nothing, and hands the
     /// connection back.
-    pub fn open(
-        mut conn: Connection<S>,
-    ) -> Result<Store<S>, (OpenError, Connection<S>)>
+    pub fn open(mut conn: Connection<S>) -> Result<Store<S>, (OpenError, Connection<S>)>
         ensures by { IfOk result (λ store. IsFaithful S.Store store → IsOpenedBy S.Store conn store.conn (Ok tt)) }
         ensures why { IfErr result (λ e. HasCleanDisk (state S.Store e.1) → IsOpenedBy S.Store conn e.1 (Err e.0)) }
         ensures opened { IfOk result (λ store. IsFaithful S.Store store → Opened true (state S.Store conn) (shown S.Store store)) }
