@@ -6,6 +6,7 @@ pub mod HeadLists
 pub mod HeadTold
 pub mod Indexed
 pub mod NameColumns
+pub mod NamesTold
 pub mod Probing
 pub mod Rooting
 pub mod RunRows

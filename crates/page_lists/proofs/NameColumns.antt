@@ -1,21 +1,28 @@
 -- Names, by their columns.
-use Rattle.std.proofs.Common.{◌≡◌, List, [], ◌∷◌, map, refl, ap, ap₂}
-use Rattle.sqlite_value.specs.Order.{Row}
+use Rattle.std.proofs.Common.{◌≡◌, pos, List, [], ◌∷◌, map, ap, ap₂, ◌∙◌}
+use Rattle.sqlite_value.specs.declared.value.Value.TheVariants.{Null, Int, Blob}
+use Rattle.sqlite_value.specs.Order.{Row, column}
 use Rattle.plain_tables.specs.Tables.{NameRow}
-use Rattle.store_schema.specs.Tables.{name_columns}
+use Rattle.store_schema.specs.Names.{SaysName, SayNames, number_read}
+use Rattle.store_schema.specs.Tables.{name_columns, number}
 use Rattle.held_lines.specs.NameRows.{name_row}
 use Rattle.held_lines.specs.declared.held_names.HeldName.{HeldName}
+use Rattle.page_lists.proofs.Said.{read_as_said}
 
-pub one_name : (a b : NameRow) → name_columns a ≡ name_columns b → a ≡ b
+one_name : (a b : NameRow) → name_columns a ≡ name_columns b → a ≡ b
 one_name a b h =
     let number_is : a.number ≡ b.number = cc in
     let name_is : a.name ≡ b.name = cc in
     ap₂ (λ n m. record { number = n; name = m }) number_is name_is
 
-pub shown_names : (names : List HeldName) → map name_columns (map name_row names) ≡ map (λ n. name_columns (name_row n)) names
-shown_names [] = refl
-shown_names (n ∷ names) = ap (λ l. name_columns (name_row n) ∷ l) (shown_names names)
-
-pub map_same : (rows : List Row) → map (λ r. r) rows ≡ rows
-map_same [] = refl
-map_same (r ∷ rows) = ap (λ l. r ∷ l) (map_same rows)
+-- rows that were read as names say these alone
+pub names_read : (rows : List Row) (names : List NameRow) → SayNames rows names → (read : List HeldName) → map (λ n. name_columns (name_row n)) read ≡ map (λ (row : Row). row) rows → map name_row read ≡ names
+names_read rows names say read = read_as_said name_row name_columns one_name (λ row. row) (SaysName say.far) same rows names read say.said
+  where
+    same : (row : Row) (line other : NameRow) → SaysName say.far row line → name_columns other ≡ row → name_columns other ≡ name_columns line
+    same row line other says is =
+        let id_is : Int (pos other.number) ≡ Int says.id = ap (λ r. column r 0) is ∙ says.has_id in
+        let name_is : Blob other.name ≡ Blob line.name = ap (λ r. column r 2) is ∙ says.has_bytes in
+        let numbered : pos other.number ≡ says.id = cc in
+        let named : other.name ≡ line.name = cc in
+        ap₂ (λ n m. number n ∷ Null ∷ Blob m ∷ []) (ap (number_read say.far) numbered ∙ says.number_is) named

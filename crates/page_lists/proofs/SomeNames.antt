@@ -1,19 +1,19 @@
 -- The names of some numbers.
-use Rattle.std.proofs.Common.{◌≡◌, ◌<◌, ◌↔◌, ℕ, pos, ◌<ℤ◌, Bool, true, false, ◌||◌, eqb, List, [], ◌∷◌, map, filter, take, get_or, refl, sym, ap, subst, ◌∙◌, inl, inr, arith, int_eq}
-use Rattle.std.specs.List.{AllByRecursion, AllPairs, list_all, list_any}
+use Rattle.std.proofs.Common.{◌≡◌, ◌≤◌, ◌<◌, ◌^◌, ◌↔◌, ℕ, suc, ℤ, pos, negsuc, ◌<ℤ◌, Bool, true, false, ◌||◌, eqb, List, [], ◌∷◌, map, filter, take, get_or, refl, sym, ap, ap₂, subst, subst₂, ◌∙◌, inl, inr, arith, int_eq}
+use Rattle.std.specs.List.{AllByRecursion, AllPairs, AllZip, list_all, list_any}
 use Rattle.std.specs.List.Sorted.{IsNonDecreasing}
 use Rattle.std.proofs.lemmas.Bool.{and_parts, and_from, cases_Bool, cases_lt, ne_eqb, true≢false}
 use Rattle.std.proofs.lemmas.Int.{ints}
 use Rattle.std.proofs.lemmas.List.Elements.{All-from_recursion}
 use Rattle.std.proofs.lemmas.List.Kept.{AllPairs-cons}
-use Rattle.sqlite_value.specs.Order.{Row}
-use Rattle.sqlite_trees.specs.Tree.{IsAscending}
+use Rattle.sqlite_value.specs.declared.value.Value.TheVariants.{Int}
+use Rattle.sqlite_value.specs.Order.{Row, column}
 use Rattle.plain_tables.specs.Tables.{NameRow}
-use Rattle.store_schema.specs.Tables.{name_columns, number}
+use Rattle.store_schema.specs.Names.{SaysName, SayNames, number_read}
+use Rattle.store_schema.specs.Tables.{number}
 use Rattle.run_stores.specs.Book.{name_of, IsHeld}
 use Rattle.run_stores.specs.Names.{AreAmong}
-use Rattle.page_lists.specs.Among.{Rise, id_of, is_among}
-use Rattle.page_lists.proofs.RunRows.{map_injective}
+use Rattle.page_lists.specs.Among.{Rise, id_of, integer, is_among}
 
 -- the number is one of these, as a rowid
 abbrev pub is_one_of : List ℕ → ℕ → Bool
@@ -27,12 +27,44 @@ names_of numbers names = filter (λ (line : NameRow). is_one_of numbers line.num
 abbrev has : ℕ → NameRow → Bool
 has n line = eqb line.number n
 
-pub names_picked : (numbers : List ℕ) (names : List NameRow) → filter (is_among numbers) (map name_columns names) ≡ map name_columns (names_of numbers names)
-names_picked numbers [] = refl
-names_picked numbers (line ∷ names) = elim (cases_Bool (is_one_of numbers line.number)) [
-  | inl one ↦ rw one (ap (λ l. name_columns line ∷ l) (names_picked numbers names))
-  | inr other ↦ rw other (names_picked numbers names)
-]
+-- ---- rows of these numbers
+
+negative : (k n : ℕ) → int_eq (negsuc k) (pos n) ≡ false
+negative k n = grind (arith, ints)
+
+none_negative : (k : ℕ) (numbers : List ℕ) → list_any (λ n. int_eq (negsuc k) (pos n)) numbers ≡ false
+none_negative k [] = refl
+none_negative k (n ∷ numbers) = rw (negative k n) (none_negative k numbers)
+
+apart : (m n : ℕ) → 2 ^ 64 ≤ m → n < 2 ^ 64 → int_eq (pos m) (pos n) ≡ false
+apart m n high low = grind (arith, ints, high, low)
+
+none_far : (m : ℕ) → 2 ^ 64 ≤ m → (numbers : List ℕ) → ((k : ℕ) → get_or numbers k 0 < 2 ^ 64) → is_one_of numbers m ≡ false
+none_far m high [] low = refl
+none_far m high (n ∷ numbers) low = rw (apart m n high (low 0)) (none_far m high numbers (λ k. low (suc k)))
+
+module _ (numbers : List ℕ) (low : (k : ℕ) → get_or numbers k 0 < 2 ^ 64) where
+  module _ (far : ℕ → ℕ) (is_far : (n : ℕ) → 2 ^ 64 ≤ far n) where
+    -- a row is picked with its line: a negative number is none of these, and its line's number is too great
+    with_line : (row : Row) (line : NameRow) → SaysName far row line → is_among numbers row ≡ is_one_of numbers line.number
+    with_line row line says = ap (λ v. list_any (λ n. int_eq (integer v) (pos n)) numbers) says.has_id ∙ go says.id line.number says.number_is
+      where
+        go : (id : ℤ) (m : ℕ) → number_read far id ≡ m → list_any (λ n. int_eq id (pos n)) numbers ≡ is_one_of numbers m
+        go (pos n) m is = ap (is_one_of numbers) is
+        go (negsuc n) m is = none_negative n numbers ∙ sym (none_far m (subst (λ i. 2 ^ 64 ≤ i) is (is_far n)) numbers low)
+
+    all_picked : (rows : List Row) (names : List NameRow) → AllZip (SaysName far) rows names → AllZip (SaysName far) (filter (is_among numbers) rows) (names_of numbers names)
+    all_picked [] [] all = tt
+    all_picked [] (line ∷ names) all = absurd all
+    all_picked (row ∷ rows) [] all = absurd all
+    all_picked (row ∷ rows) (line ∷ names) all = elim (cases_Bool (is_one_of numbers line.number)) [
+      | inl one ↦ (let here : is_among numbers row ≡ true = with_line row line all.0 ∙ one in rw (here, one) (all.0, all_picked rows names all.1))
+      | inr other ↦ (let here : is_among numbers row ≡ false = with_line row line all.0 ∙ other in rw (here, other) (all_picked rows names all.1))
+    ]
+
+  -- the rows that are picked say the names of these numbers
+  pub names_picked : (rows : List Row) (names : List NameRow) → SayNames rows names → SayNames (filter (is_among numbers) rows) (names_of numbers names)
+  names_picked rows names say = record { far = say.far; is_far = say.is_far; said = all_picked say.far say.is_far rows names say.said }
 
 -- ---- the names that a test of numbers keeps
 
@@ -99,22 +131,35 @@ are_among numbers names = record { same = same; whole = whole numbers (each_one_
 abbrev pub number_of : NameRow → ℕ
 number_of line = line.number
 
-one_number : (a b : ℕ) → (let row : Row = number a ∷ [] in row) ≡ number b ∷ [] → a ≡ b
-one_number a b is = cc
-
-first_columns : (names : List NameRow) → map (take 1) (map name_columns names) ≡ map (λ n. number n ∷ []) (map number_of names)
-first_columns [] = refl
-first_columns (line ∷ names) = ap (λ l. (number line.number ∷ []) ∷ l) (first_columns names)
-
 any_number : (n : ℕ) (names : List NameRow) → list_any (λ m. eqb m n) (map number_of names) ≡ list_any (has n) names
 any_number n [] = refl
 any_number n (line ∷ names) = ap (λ b. eqb line.number n || b) (any_number n names)
 
--- what was found are the numbers of the names of these
-pub numbers_are : (numbers : List ℕ) (names : List NameRow) (found : List ℕ) → map (λ n. number n ∷ []) found ≡ map (take 1) (filter (is_among numbers) (map name_columns names))
-    → found ≡ map number_of (names_of numbers names)
-numbers_are numbers names found is =
-    map_injective (λ n. number n ∷ []) one_number found (map number_of (names_of numbers names)) (is ∙ ap (map (take 1)) (names_picked numbers names) ∙ first_columns (names_of numbers names))
+-- a row whose first column was read has this number as its rowid
+id_read : (row : Row) (n : ℕ) → take 1 row ≡ number n ∷ [] → column row 0 ≡ Int (pos n)
+id_read [] n is = absurd cc
+id_read (v ∷ row) n is = ap (λ r. column r 0) is
+
+-- numbers that were read of rows are those of the names that they say
+pub numbers_are : (rows : List Row) (names : List NameRow) → SayNames rows names → (found : List ℕ) → map (λ n. number n ∷ []) found ≡ map (take 1) rows → found ≡ map number_of names
+numbers_are rows names say found is = go rows names say.said found is
+  where
+    same : (row : Row) (line : NameRow) → SaysName say.far row line → (n : ℕ) → take 1 row ≡ number n ∷ [] → n ≡ line.number
+    same row line says n is =
+        let ids : Int (pos n) ≡ Int says.id = sym (id_read row n is) ∙ says.has_id in
+        let id_is : pos n ≡ says.id = cc in
+        ap (number_read say.far) id_is ∙ says.number_is
+
+    go : (rows : List Row) (names : List NameRow) → AllZip (SaysName say.far) rows names → (found : List ℕ) → map (λ n. number n ∷ []) found ≡ map (take 1) rows → found ≡ map number_of names
+    go [] [] all [] is = refl
+    go [] [] all (n ∷ found) is = absurd cc
+    go [] (line ∷ names) all found is = absurd all
+    go (row ∷ rows) [] all found is = absurd all
+    go (row ∷ rows) (line ∷ names) all [] is = absurd cc
+    go (row ∷ rows) (line ∷ names) all (n ∷ found) is =
+        let here : take 1 row ≡ number n ∷ [] = cc in
+        let later : map (λ m. number m ∷ []) found ≡ map (take 1) rows = cc in
+        ap₂ ◌∷◌ (same row line all.0 n here) (go rows names all.1 found later)
 
 -- each number is among them just where its name is held
 pub all_held : (numbers : List ℕ) (names : List NameRow) (found : List ℕ) → found ≡ map number_of (names_of numbers names)
@@ -134,36 +179,34 @@ all_held numbers names found is = (to numbers (each_one_of numbers), back number
 
 -- ---- in order
 
-abbrev pub IsBelow : NameRow → NameRow → Type 0
-IsBelow a b = a.number < b.number
+all_kept : (P : Row → Type 0) (p : Row → Bool) (rows : List Row) → AllByRecursion P rows → AllByRecursion P (filter p rows)
+all_kept P p [] all = tt
+all_kept P p (row ∷ rows) all = elim (cases_Bool (p row)) [ inl one ↦ rw one (all.0, all_kept P p rows all.1) | inr other ↦ rw other (all_kept P p rows all.1) ]
+
+kept_rise : (p : Row → Bool) (rows : List Row) → Rise rows → Rise (filter p rows)
+kept_rise p [] rise = tt
+kept_rise p (row ∷ rows) rise = elim (cases_Bool (p row)) [ inl one ↦ rw one (all_kept (λ other. id_of row <ℤ id_of other) p rows rise.0, kept_rise p rows rise.1) | inr other ↦ rw other (kept_rise p rows rise.1) ]
 
 less_of : (m n : ℕ) → pos m <ℤ pos n → m < n
 less_of m n less = omega (arith, ints)
 
-above_of : (line : NameRow) (names : List NameRow) → AllByRecursion (λ r. id_of (name_columns line) <ℤ id_of r) (map name_columns names) → AllByRecursion (IsBelow line) names
-above_of line [] above = tt
-above_of line (other ∷ names) above = (less_of line.number other.number above.0, above_of line names above.1)
+numbers_above : (n : ℕ) (row : Row) → id_of row ≡ pos n → (rows : List Row) (found : List ℕ) → map (λ m. number m ∷ []) found ≡ map (take 1) rows → AllByRecursion (λ other. id_of row <ℤ id_of other) rows
+    → AllByRecursion (λ m. n < m) found
+numbers_above n row first [] [] is above = tt
+numbers_above n row first [] (m ∷ found) is above = absurd cc
+numbers_above n row first (other ∷ rows) [] is above = tt
+numbers_above n row first (other ∷ rows) (m ∷ found) is above =
+    let here : take 1 other ≡ number m ∷ [] = cc in
+    let later : map (λ k. number k ∷ []) found ≡ map (take 1) rows = cc in
+    (less_of n m (subst₂ (λ a b. a <ℤ b) first (ap integer (id_read other m here)) above.0), numbers_above n row first rows found later above.1)
 
-pub names_rise : (names : List NameRow) → Rise (map name_columns names) → IsAscending IsBelow names
-names_rise [] rise = tt
-names_rise (line ∷ names) rise = (above_of line names rise.0, names_rise names rise.1)
-
-all_kept : (P : NameRow → Type 0) (p : NameRow → Bool) (names : List NameRow) → AllByRecursion P names → AllByRecursion P (filter p names)
-all_kept P p [] all = tt
-all_kept P p (line ∷ names) all = elim (cases_Bool (p line)) [ inl one ↦ rw one (all.0, all_kept P p names all.1) | inr other ↦ rw other (all_kept P p names all.1) ]
-
-kept_rise : (p : NameRow → Bool) (names : List NameRow) → IsAscending IsBelow names → IsAscending IsBelow (filter p names)
-kept_rise p [] up = tt
-kept_rise p (line ∷ names) up = elim (cases_Bool (p line)) [ inl one ↦ rw one (all_kept (IsBelow line) p names up.0, kept_rise p names up.1) | inr other ↦ rw other (kept_rise p names up.1) ]
-
-numbers_above : (n : ℕ) (names : List NameRow) → AllByRecursion (λ (line : NameRow). n < line.number) names → AllByRecursion (λ m. n < m) (map number_of names)
-numbers_above n [] above = tt
-numbers_above n (line ∷ names) above = (above.0, numbers_above n names above.1)
-
-pairs_rise : (names : List NameRow) → IsAscending IsBelow names → AllPairs (λ m n. m < n) (map number_of names)
-pairs_rise [] up = λ i j d less inside. absurd (omega (arith, inside))
-pairs_rise (line ∷ names) up =
-    AllPairs-cons (λ m n. m < n) line.number (map number_of names) (All-from_recursion (λ m. line.number < m) (map number_of names) (numbers_above line.number names up.0)) (pairs_rise names up.1)
+pairs_rise : (rows : List Row) (found : List ℕ) → map (λ n. number n ∷ []) found ≡ map (take 1) rows → Rise rows → AllPairs (λ m n. m < n) found
+pairs_rise rows [] is rise = λ i j d less inside. absurd (omega (arith, inside))
+pairs_rise [] (n ∷ found) is rise = absurd cc
+pairs_rise (row ∷ rows) (n ∷ found) is rise =
+    let here : take 1 row ≡ number n ∷ [] = cc in
+    let later : map (λ k. number k ∷ []) found ≡ map (take 1) rows = cc in
+    AllPairs-cons (λ m n. m < n) n found (All-from_recursion (λ m. n < m) found (numbers_above n row (ap integer (id_read row n here)) rows found later rise.0)) (pairs_rise rows found later rise.1)
 
 not_falling : (xs : List ℕ) → AllPairs (λ m n. m < n) xs → IsNonDecreasing xs
 not_falling xs up i j d le inside = elim (cases_lt i j) [
@@ -172,7 +215,5 @@ not_falling xs up i j d le inside = elim (cases_lt i j) [
 ]
 
 -- so those that were found rise
-pub found_rise : (numbers : List ℕ) (names : List NameRow) (found : List ℕ) → found ≡ map number_of (names_of numbers names) → Rise (map name_columns names) → IsNonDecreasing found
-found_rise numbers names found is rise =
-    subst IsNonDecreasing (sym is) (not_falling (map number_of (names_of numbers names))
-    (pairs_rise (names_of numbers names) (kept_rise (λ (line : NameRow). is_one_of numbers line.number) names (names_rise names rise))))
+pub found_rise : (numbers : List ℕ) (rows : List Row) (found : List ℕ) → map (λ n. number n ∷ []) found ≡ map (take 1) (filter (is_among numbers) rows) → Rise rows → IsNonDecreasing found
+found_rise numbers rows found is rise = not_falling found (pairs_rise (filter (is_among numbers) rows) found is (kept_rise (is_among numbers) rows rise))

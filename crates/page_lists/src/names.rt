@@ -1,5 +1,5 @@
 // The names that are held, read off their table.
-ghost use Rattle.std.specs.Prelude.{◌≡◌, ◌↔◌, ◌==◌, true, List, map, IfOk};
+ghost use Rattle.std.specs.Prelude.{◌≡◌, ◌↔◌, ◌==◌, true, List, IfOk};
 ghost use Rattle.std.specs.List.{AllByRecursion, list_all, list_any};
 ghost use Rattle.std.specs.List.Sorted.{IsNonDecreasing};
 ghost use Rattle.sqlite_value.specs.Order.{Row};
@@ -8,6 +8,7 @@ ghost use Rattle.plain_tables.specs.Tables.{NameRow};
 ghost use Rattle.run_stores.specs.Book.{IsHeld};
 ghost use Rattle.run_stores.specs.Names.{AreAmong};
 ghost use Rattle.page_files.specs.Files.{IsFaithful, OnlyReads};
+ghost use Rattle.store_schema.specs.Names.{SayNames};
 ghost use Rattle.store_schema.specs.Tables.{name_columns};
 ghost use Rattle.page_lists.specs.Shown.{ShowsRows};
 ghost use Rattle.page_lists.specs.Names.{name_read};
@@ -61,7 +62,7 @@ pub fn names_under<D: Disk>(
     alloc: Global,
     root: u32,
 ) -> Result<HeldNames, StoreError>
-    ensures read { IsFaithful file.new → (rows : List Row) → ShowsRows file.old root rows → (names : List NameRow) → rows ≡ map name_columns names
+    ensures read { IsFaithful file.new → (rows : List Row) → ShowsRows file.old root rows → (names : List NameRow) → SayNames rows names
         → IfOk result (λ held. held ≡ names) }
     ensures reads { OnlyReads file.old file.new }
 {
@@ -77,7 +78,7 @@ pub fn names_among<D: Disk>(
     root: u32,
     numbers: &[u32],
 ) -> Result<HeldNames, StoreError>
-    ensures read { IsFaithful file.new → (rows : List Row) → ShowsRows file.old root rows → (names : List NameRow) → rows ≡ map name_columns names
+    ensures read { IsFaithful file.new → (rows : List Row) → ShowsRows file.old root rows → (names : List NameRow) → SayNames rows names
         → IfOk result (λ held. AreAmong numbers.now names held) }
     ensures reads { OnlyReads file.old file.new }
 {
@@ -120,7 +121,7 @@ pub fn holds_names<D: Disk>(
     root: u32,
     numbers: &[u32],
 ) -> Result<bool, StoreError>
-    ensures read { IsFaithful file.new → (rows : List Row) → ShowsRows file.old root rows → (names : List NameRow) → rows ≡ map name_columns names
+    ensures read { IsFaithful file.new → (rows : List Row) → ShowsRows file.old root rows → (names : List NameRow) → SayNames rows names
         → IfOk result (λ are. (are ≡ true) ↔ AllByRecursion (IsHeld names) numbers.now) }
     ensures reads { OnlyReads file.old file.new }
 {

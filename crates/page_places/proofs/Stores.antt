@@ -1,5 +1,5 @@
 -- The names that the pages of a file hold, between transactions and within one.
-use Rattle.std.proofs.Common.{ℕ, List, refl}
+use Rattle.std.proofs.Common.{ℕ, List, refl, sym, subst}
 use Rattle.sqlite_disk.specs.declared.Disk.{Ghosts}
 use Rattle.sqlite_store.specs.declared.catalog.Wanted.{Wanted}
 use Rattle.sqlite_trees.specs.Tree.{Trees}
@@ -9,12 +9,17 @@ use Rattle.page_files.specs.Held.{Writes}
 use Rattle.page_files.proofs.Standing.{stands_writing}
 use Rattle.plain_tables.specs.Tables.{Tables}
 use Rattle.store_schema.specs.Schema.{schema_two, name_at}
+use Rattle.store_schema.specs.Names.{SayNames}
 use Rattle.store_schema.specs.Tables.{Holds, contents_of}
+use Rattle.store_schema.proofs.Names.{names_say}
 use Rattle.page_places.specs.Stores.{HoldsNames, ShowsNames}
 
--- where tables hold rows, they hold their names
+-- where tables hold rows, those of names say them
 pub names_held : (t : Tables) (db : Trees) → Holds t db → HoldsNames t db
-names_held t db holds = record { sound = holds.contain.sound; names_are = (content_there schema_two.tables (contents_of t) db 5 name_at refl holds.contain.contents_are).rows_are }
+names_held t db holds = record {
+  sound = holds.contain.sound;
+  names_are = subst (λ rows. SayNames rows t.names) (sym (content_there schema_two.tables (contents_of t) db 5 name_at refl holds.contain.contents_are).rows_are) (names_say t.names);
+}
 
 module _ {D : Type 0} {g : Ghosts D} where
   -- within a transaction

@@ -31,7 +31,7 @@ IsOutOfForm entry = (name : List ℕ) (n : ℕ) → n < 2 ^ 32 → entry ≢ Blo
 abbrev pub IsRefused : Row → StoreError → Type 0
 IsRefused entry e = (e ≡ Store) × IsOutOfForm entry
 
--- the number of a name has more than 32 bits: the program makes none, but the tables can hold them
+-- the number of a name has more than 32 bits: the program makes none, but the tables can hold them, and rows with negative ones are read so
 pub record HasWideNumber (t : Tables) : Type 0 where
   pub line : NameRow
   pub there : Has t.names line

@@ -1,21 +1,22 @@
 -- What a store shows in its large tables, and what it is read as and represents whose roots were found and whose small tables were read.
-use Rattle.std.proofs.Common.{ℕ, List, map, refl, subst}
+use Rattle.std.proofs.Common.{ℕ, List, refl}
 use Rattle.sqlite_disk.specs.declared.Disk.{Ghosts}
 use Rattle.sqlite_store.specs.declared.catalog.Wanted.{Wanted}
+use Rattle.sqlite_value.specs.Order.{Row}
 use Rattle.sqlite_trees.specs.Tree.{Trees}
 use Rattle.sql_tables.proofs.Contents.{content_there}
 use Rattle.plain_tables.specs.Tables.{Tables, StoredCell, StoredCall, StoredStack}
-use Rattle.prof_store.proofs.Readings.{calls_said, cells_said, stacks_said}
+use Rattle.prof_store.proofs.Readings.{calls_said, cells_said, names_said, stacks_said}
 use Rattle.prof_store.proofs.Told.{held_said, said}
-use Rattle.store_schema.specs.Schema.{schema_two, thread_cell_at, arc_at, stack_at}
-use Rattle.store_schema.specs.Tables.{Holds, contents_of, name_columns, cell_columns, arc_columns, stack_columns}
+use Rattle.store_schema.specs.Schema.{schema_two, name_at, thread_cell_at, arc_at, stack_at}
+use Rattle.store_schema.specs.Names.{SayNames}
+use Rattle.store_schema.specs.Tables.{Holds, contents_of, cell_columns, arc_columns, stack_columns}
 use Rattle.run_lists.specs.Listed.{AreListed}
 use Rattle.page_files.specs.Files.{IsUsable}
 use Rattle.page_files.specs.Held.{Rests}
 use Rattle.page_files.proofs.Standing.{stands_resting}
 use Rattle.run_stores.specs.Order.{AreInOrder}
 use Rattle.page_places.specs.Roots.{AreRoots}
-use Rattle.page_places.proofs.Stores.{names_held}
 use Rattle.page_runs.specs.Kept.{AreKept}
 use Rattle.page_lists.specs.Shown.{ShowsLines, ShowsRows}
 use Rattle.page_lists.proofs.RunRows.{shown_in_order}
@@ -32,7 +33,6 @@ rows_said t db holds order =
     let stacks = content_there schema_two.tables (contents_of t) db 7 stack_at refl all in
     record {
       says = held_said t db holds;
-      names = names_held t db holds;
       in_order = record {
         cells = shown_in_order cell_columns (λ (c : StoredCell). c.run) (λ c. refl) (db thread_cell_at.tree) t.cells cells.rows_are order.cells;
         calls = shown_in_order arc_columns (λ (a : StoredCall). a.run) (λ a. refl) (db arc_at.tree) t.calls calls.rows_are order.calls;
@@ -41,9 +41,11 @@ rows_said t db holds order =
     }
 
 module _ {D : Type 0} {g : Ghosts D} where
-  -- the large tables stand under the roots of a store, with these rows
+  -- the large tables stand under the roots of a store, and their rows say these
   pub record ShowsLarge (t : Tables) (store : PageRuns D g) : Type 0 where
-    pub names : ShowsRows store.file store.roots.names (map name_columns t.names)
+    pub name_rows : List Row
+    pub names : ShowsRows store.file store.roots.names name_rows
+    pub names_are : SayNames name_rows t.names
     pub cells : ShowsLines store.file store.roots.cells thread_cell_at cell_columns t.cells
     pub calls : ShowsLines store.file store.roots.calls arc_at arc_columns t.calls
     pub stacks : ShowsLines store.file store.roots.stacks stack_at stack_columns t.stacks
@@ -51,10 +53,12 @@ module _ {D : Type 0} {g : Ghosts D} where
   pub large_shown : (t : Tables) (store : PageRuns D g) → ShowsTables t store → ShowsLarge t store
   large_shown t store is =
       let db = is.db in
-      let roots = tables_show store.file db is.known is.stands is.says.names.sound store.roots is.roots in
       let was = said t db is.says.says in
+      let roots = tables_show store.file db is.known is.stands was.sound store.roots is.roots in
       record {
-        names = subst (ShowsRows store.file store.roots.names) is.says.names.names_are roots.names;
+        name_rows = db name_at.tree;
+        names = roots.names;
+        names_are = names_said t db was;
         cells = record { rows = db thread_cell_at.tree; shows = roots.cells; far = was.far; is_far = was.is_far; said = cells_said t db was; in_order = is.says.in_order.cells };
         calls = record { rows = db arc_at.tree; shows = roots.calls; far = was.far; is_far = was.is_far; said = calls_said t db was; in_order = is.says.in_order.calls };
         stacks = record { rows = db stack_at.tree; shows = roots.stacks; far = was.far; is_far = was.is_far; said = stacks_said t db was; in_order = is.says.in_order.stacks };

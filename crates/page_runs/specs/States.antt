@@ -16,6 +16,7 @@ use Rattle.page_files.specs.Files.{page_size, pages_of}
 use Rattle.page_files.specs.Held.{Rests}
 use Rattle.page_files.specs.Trees.{StandsIn}
 use Rattle.page_lists.specs.Walks.{InOrder}
+use Rattle.page_lists.proofs.NamesTold.{apart_told}
 use Rattle.plain_tables.specs.Tables.{Tables}
 use Rattle.run_lists.specs.Listed.{AreListed}
 use Rattle.run_stores.specs.Order.{AreInOrder}
@@ -23,10 +24,8 @@ use Rattle.prof_store.specs.Readings.{RowsSay}
 use Rattle.store_schema.specs.Schema.{schema_two, arc_at, stack_at, thread_cell_at}
 use Rattle.store_schema.specs.Tables.{Holds}
 use Rattle.store_schema.proofs.Sound.{sound_of}
-use Rattle.held_lines.proofs.Apart.{apart_named}
 use Rattle.run_stores.specs.declared.states.StoreState.{Ghosts as StoreGhosts}
 use Rattle.page_places.specs.Roots.{AreRoots}
-use Rattle.page_places.specs.Stores.{HoldsNames}
 use Rattle.page_runs.specs.Kept.{AreKept}
 use Rattle.page_runs.specs.declared.store.PageRuns.{PageRuns}
 
@@ -56,10 +55,9 @@ pub record AreRowsInOrder (db : Trees) : Type 0 where
   pub calls : InOrder (db arc_at.tree)
   pub stacks : InOrder (db stack_at.tree)
 
--- whoever wrote the rows of a database, they say these, each name in form, and those of runs in the order of the runs
+-- whoever wrote the rows of a database, they say these, those of runs in the order of the runs
 pub record SaysRows (t : Tables) (db : Trees) : Type 0 where
   pub says : RowsSay t db
-  pub names : HoldsNames t db
   pub in_order : AreRowsInOrder db
 
 -- files hold such a database
@@ -157,7 +155,7 @@ module _ {D : Type 0} {g : Ghosts D} where
     usable = λ t s represents. represents.reads.usable;
     said = λ t s represents. represents.reads;
     readable = λ t s reads. reads.usable;
-    apart = λ t s reads. apart_named t reads.shows.db reads.shows.says.names.sound reads.shows.says.names.names_are;
+    apart = λ t s reads. apart_told t reads.shows.db reads.shows.says.says;
     sound = λ t s represents. sound_of t represents.db represents.holds;
     left_sound = λ t left holds. sound_of t holds.db holds.holds;
   }

@@ -229,7 +229,7 @@ impl<D: Disk> PageRuns<D> {
 impl<D: Disk> StoreState for PageRuns<D> {
     ghost use Rattle.sqlite_pool.specs.Pool as pools;
     ghost use Rattle.store_schema.proofs.Sound.{sound_of};
-    ghost use Rattle.held_lines.proofs.Apart.{apart_named};
+    ghost use Rattle.page_lists.proofs.NamesTold.{apart_told};
     ghost use Rattle.page_runs.specs.States.{HoldsTables, IsFaithful, IsSettled, Kept as KeptPages, Left, ReadsAs, Represents, faults, kept, may_leave};
 
     ghost Kept = { KeptPages };
@@ -260,7 +260,7 @@ impl<D: Disk> StoreState for PageRuns<D> {
 
     ghost readable = { λ t s reads. reads.usable };
 
-    ghost apart = { λ t s reads. apart_named t reads.shows.db reads.shows.says.names.sound reads.shows.says.names.names_are };
+    ghost apart = { λ t s reads. apart_told t reads.shows.db reads.shows.says.says };
 
     ghost sound = { λ t s represents. sound_of t represents.db represents.holds };
 

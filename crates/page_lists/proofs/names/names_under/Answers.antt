@@ -1,22 +1,19 @@
 use Rattle.std.proofs.Common.{◌∙◌}
 use Rattle.std.proofs.lemmas.Result.{IfOk-from_err}
-use Rattle.store_schema.specs.Tables.{name_columns}
-use Rattle.page_lists.proofs.RunRows.{map_injective}
-use Rattle.page_lists.proofs.NameColumns.{map_same, one_name, shown_names}
+use Rattle.page_lists.proofs.NameColumns.{names_read}
 use Rattle.page_lists.proofs.names.names_under.Goals as goal
 
 pub returns-clause-read : goal.returns-clause-read
-returns-clause-read g c faithful rows is names are =
-    c.in_ok-of.ensures.taken ∙ map_injective name_columns one_name _ names (shown_names c.in_ok-names.names.items ∙ c.in_ok-names.ensures.read faithful rows is ∙ map_same rows ∙ are)
+returns-clause-read g c faithful rows is names say = c.in_ok-of.ensures.taken ∙ names_read rows names say c.in_ok-names.names.items (c.in_ok-names.ensures.read faithful rows is)
 
 pub returns-in_err-names-clause-read : goal.returns-in_err-names-clause-read
-returns-in_err-names-clause-read g c = λ faithful rows is names are. IfOk-from_err c.from_residual.result _ c.from_residual.ensures.0
+returns-in_err-names-clause-read g c = λ faithful rows is names say. IfOk-from_err c.from_residual.result _ c.from_residual.ensures.0
 
 pub returns-in_err-names-clause-reads : goal.returns-in_err-names-clause-reads
 returns-in_err-names-clause-reads g c = c.all_rows.ensures.reads
 
 pub returns-in_err-of-clause-read : goal.returns-in_err-of-clause-read
-returns-in_err-of-clause-read g c = λ faithful rows is names are. IfOk-from_err c.from_residual-in_err-of.result _ c.from_residual-in_err-of.ensures.0
+returns-in_err-of-clause-read g c = λ faithful rows is names say. IfOk-from_err c.from_residual-in_err-of.result _ c.from_residual-in_err-of.ensures.0
 
 pub returns-in_err-of-clause-reads : goal.returns-in_err-of-clause-reads
 returns-in_err-of-clause-reads g c = c.all_rows.ensures.reads

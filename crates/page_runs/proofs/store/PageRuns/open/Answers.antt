@@ -8,7 +8,7 @@ use Rattle.page_files.specs.Held.{Has}
 use Rattle.sqlite_pool.specs.Stored.{Recovers}
 use Rattle.page_places.proofs.Rooting.{store_resting}
 use Rattle.page_runs.specs.declared.store.PageRuns.{PageRuns}
-use Rattle.prof_store.proofs.Told.{held_said}
+use Rattle.prof_store.proofs.Told.{held_said, said}
 use Rattle.page_runs.proofs.Taken.{reads_as, represents_as}
 use Rattle.std.proofs.lemmas.Result.{IfOk-from_err}
 use Rattle.page_lists.specs.Sizes.{IsSizeOf}
@@ -38,7 +38,7 @@ returns-clause-reads g c = λ faithful t is.
     record { file = c.in_ok-file.file; alloc = c.args.alloc; roots = c.in_ok-file.roots; lists = c.in_ok-file.lists; is_alone = c.in_ok-file.is_alone; hints = c.new.result; kept_cells = c.new-2.result } in
     let has : Has (page_size opened) is.at.wanted is.db is.at.pages = subst (λ n. Has n is.at.wanted is.db is.at.pages) size (record { ours = is.at.ours; reads = is.at.reads }) in
     let rests = c.in_ok-opened.ensures.rests (reads.keeps.stays.clean faithful) is.at.wanted is.db is.at.pages (subst (λ n. Recovers n (seen_image g.D.Disk c.args.files.log c.args.files.db) is.at.pages) size is.at.found) has in
-    let (roots, listed) = c.in_ok-file.ensures.opened faithful is.db _ (store_resting opened is.db _ _ rests is.says.names.sound) in
+    let (roots, listed) = c.in_ok-file.ensures.opened faithful is.db _ (store_resting opened is.db _ _ rests (said t is.db is.says.says).sound) in
     reads_as t store is.db _ (rests_after opened c.in_ok-file.file reads faithful c.in_ok-file.ensures.usable rests) is.says roots (listed t is.says.says)
     (c.new-2.ensures.nothing t) c.in_ok-file.ensures.usable
 

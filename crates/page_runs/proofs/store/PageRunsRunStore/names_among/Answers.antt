@@ -1,12 +1,13 @@
-use Rattle.std.proofs.Common.{map, refl}
+use Rattle.std.proofs.Common.{refl}
 use Rattle.std.proofs.lemmas.Result.{IfOk-from_err}
-use Rattle.store_schema.specs.Tables.{name_columns}
 use Rattle.page_runs.proofs.Taken.{large_shown}
 use Rattle.page_runs.proofs.States.{asked, none_answered}
 use Rattle.page_runs.proofs.store.PageRunsRunStore.names_among.Goals as goal
 
 pub returns-clause-told : goal.returns-clause-told
-returns-clause-told g c faithful t is = c.in_ok-answer.ensures.read faithful (map name_columns t.names) (large_shown t c.args.self.now is.shows).names t.names refl
+returns-clause-told g c faithful t is =
+    let shown = large_shown t c.args.self.now is.shows in
+    c.in_ok-answer.ensures.read faithful shown.name_rows shown.names t.names shown.names_are
 
 pub returns-clause-asks : goal.returns-clause-asks
 returns-clause-asks g c = asked _ _ c.names_among.ensures.reads refl refl refl _ (λ _. c.in_ok-if_usable.ensures)
