@@ -80,17 +80,6 @@ fn run_total(rt: &HostRuntime, path: &str) -> io::Result<ExitCode> {
     Ok(ExitCode::from(status))
 }
 
-/// Does a job over the store at a path, and prints why where none is opened. No guarantee: as `status_of`.
-fn run_job<'a, S: RunStore + Drop, P: Opener<S>, O: Outputs>(
-    rt: &'a HostRuntime,
-    outputs: &O,
-    db: &str,
-    job: Job<'_, 'a>,
-) -> io::Result<ExitCode> {
-    let came_to = work_at::<S, P, O>(rt, outputs, db, job);
-    status_of::<S, P, O::Out>(rt, db, came_to)
-}
-
 /// Runs the commands of a plan that has such. No guarantee: as `run_plan`.
 fn run_commands<'a, S: RunStore + Drop, P: Opener<S>, O: Outputs>(
     rt: &'a HostRuntime,
@@ -100,7 +89,10 @@ fn run_commands<'a, S: RunStore + Drop, P: Opener<S>, O: Outputs>(
     requires { HasCommands plan.now }
 {
     match commands_of(rt.alloc(), plan) {
-        Ok((db, commands)) => { run_job::<S, P, O>(rt, outputs, db, Job::Run(commands.as_slice())) }
+        Ok((db, commands)) => {
+            let came_to = work_at::<S, P, O>(rt, outputs, db, Job::Run(commands.as_slice()));
+            status_of::<S, P, O::Out>(rt, db, came_to)
+        }
         Err(AllocError) => print_refused(rt, "out of memory"),
     }
 }
@@ -145,7 +137,10 @@ fn run_plan<'a, S: RunStore + Drop, P: Opener<S>, O: Outputs>(
 ) -> io::Result<ExitCode> {
     match asked_of(plan) {
         Asked::Total(path) => run_total(rt, path),
-        Asked::Serve(db, service) => run_job::<S, P, O>(rt, outputs, db, Job::Serve(service)),
+        Asked::Serve(db, service) => {
+            let came_to = work_at::<S, P, O>(rt, outputs, db, Job::Serve(service));
+            status_of::<S, P, O::Out>(rt, db, came_to)
+        }
         Asked::Commands => run_commands::<S, P, O>(rt, outputs, plan),
     }
 }
