@@ -80,23 +80,6 @@ fn run_total(rt: &HostRuntime, path: &str) -> io::Result<ExitCode> {
     Ok(ExitCode::from(status))
 }
 
-/// Runs the commands of a plan that has such. No guarantee: as `run_plan`.
-fn run_commands<'a, S: RunStore + Drop, P: Opener<S>, O: Outputs>(
-    rt: &'a HostRuntime,
-    outputs: &O,
-    plan: &Plan<'a>,
-) -> io::Result<ExitCode>
-    requires { HasCommands plan.now }
-{
-    match commands_of(rt.alloc(), plan) {
-        Ok((db, commands)) => {
-            let came_to = work_at::<S, P, O>(rt, outputs, db, Job::Run(commands.as_slice()));
-            status_of::<S, P, O::Out>(rt, db, came_to)
-        }
-        Err(AllocError) => print_refused(rt, "out of memory"),
-    }
-}
-
 /// What a plan asks for.
 enum Asked<'p> {
     Total(&'p str),
@@ -141,7 +124,13 @@ fn run_plan<'a, S: RunStore + Drop, P: Opener<S>, O: Outputs>(
             let came_to = work_at::<S, P, O>(rt, outputs, db, Job::Serve(service));
             status_of::<S, P, O::Out>(rt, db, came_to)
         }
-        Asked::Commands => run_commands::<S, P, O>(rt, outputs, plan),
+        Asked::Commands => match commands_of(rt.alloc(), plan) {
+            Ok((db, commands)) => {
+                let came_to = work_at::<S, P, O>(rt, outputs, db, Job::Run(commands.as_slice()));
+                status_of::<S, P, O::Out>(rt, db, came_to)
+            }
+            Err(AllocError) => print_refused(rt, "out of memory"),
+        },
     }
 }
 
