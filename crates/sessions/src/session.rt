@@ -148,10 +148,10 @@ impl<'a, R: Files + AllocGlobal, W: Write + Drop, S: RunStore> Session<'a, R, W,
     }
 
     /// Does a command, and prints its answer. What was found of its file is kept beside it.
-    fn perform(
+    fn perform<'c>(
         &mut self,
-        command: &WordsCommand<'a>,
-        remarks: &mut Vec<Remark<'a>>,
+        command: &WordsCommand<'c>,
+        remarks: &mut Vec<Remark<'c>>,
     ) -> io::Result<()>
         ensures limits { self.new.warehouse.limits ≡ self.old.warehouse.limits }
         ensures answered { IsFaithful S.StoreState self.new.warehouse.store
@@ -173,7 +173,7 @@ impl<'a, R: Files + AllocGlobal, W: Write + Drop, S: RunStore> Session<'a, R, W,
 /// back the status that the answers come to, or why printing failed; where they were printed, and the store. What was found of
 /// their files is kept beside them.
 pub fn work_over<'a, R: Files + AllocGlobal, W: Write + Drop, S: RunStore>(
-    rt: &'a R,
+    rt: &R,
     out: W,
     store: S,
     commands: &[WordsCommand<'a>],
