@@ -33,7 +33,7 @@ fn may_be_repeated(rt: &HostRuntime, command: &WordsCommand<'_>) -> bool {
 /// Does a job that only reads over a store that was read beside others, and prints what it comes to if what was read stood
 /// still: else nothing was printed.
 fn done_beside<'a, S: RunStore + Drop, P: Opener<S>, O: Outputs>(
-    rt: &'a HostRuntime,
+    rt: &HostRuntime,
     outputs: &O,
     store: S,
     standing: Standing,
@@ -61,7 +61,7 @@ fn done_beside<'a, S: RunStore + Drop, P: Opener<S>, O: Outputs>(
 /// Does a job that only reads over the store at a path, once. A file that is read without a log is locked for that.
 /// `Standing` says when what was read is what one commit left.
 fn done_once<'a, S: RunStore + Drop, P: Opener<S>, O: Outputs>(
-    rt: &'a HostRuntime,
+    rt: &HostRuntime,
     outputs: &O,
     path: &str,
     job: Job<'_, 'a>,
@@ -88,7 +88,7 @@ fn may_be_beside(rt: &HostRuntime, job: Job<'_, '_>) -> bool {
 /// Does a job over the store at a path beside others, if it only reads: no lock is taken, and nothing is made or changed.
 /// Where others write meanwhile, it begins anew, as long as patience lasts. `P` says what the files held when it was done.
 pub(crate) fn work_beside<'a, S: RunStore + Drop, P: Opener<S>, O: Outputs>(
-    rt: &'a HostRuntime,
+    rt: &HostRuntime,
     outputs: &O,
     path: &str,
     job: Job<'_, 'a>,

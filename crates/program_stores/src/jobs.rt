@@ -46,7 +46,7 @@ impl<'a> Job<'_, 'a> {
     /// beside.
     pub(crate) fn over<W: Write + Drop, T: RunStore>(
         self,
-        rt: &'a HostRuntime,
+        rt: &HostRuntime,
         out: W,
         store: T,
         remarks: &mut Vec<Remark<'a>>,

@@ -40,7 +40,7 @@ fn store_to_change_at<S: RunStore + Drop, P: Opener<S>>(
 /// Does a job over a store that no other has open, and copies what was committed from the log into the file; where that
 /// fails, as over files that are only read, it stands in the log, and the next opening finds it there.
 fn done_alone<'a, S: RunStore + Drop, P: Opener<S>, O: Outputs>(
-    rt: &'a HostRuntime,
+    rt: &HostRuntime,
     outputs: &O,
     store: S,
     job: Job<'_, 'a>,
@@ -64,7 +64,7 @@ fn done_alone<'a, S: RunStore + Drop, P: Opener<S>, O: Outputs>(
 /// Does a job over the store at a path, with no other beside: one that only reads over the files as they are, if their log
 /// is not long. A store that is to be refused is refused before anything of it is written, as far as `look_beside` sees it.
 fn work_alone<'a, S: RunStore + Drop, P: Opener<S>, O: Outputs>(
-    rt: &'a HostRuntime,
+    rt: &HostRuntime,
     outputs: &O,
     db: &str,
     patience: Patience,
@@ -87,7 +87,7 @@ fn work_alone<'a, S: RunStore + Drop, P: Opener<S>, O: Outputs>(
 /// Does a job over the store at a path, which is made where there is none: one that only reads beside others, if it can be
 /// read so. `P` says what the files held when the store was opened over which it was done, whoever had made or changed them.
 pub(crate) fn work_at<'a, S: RunStore + Drop, P: Opener<S>, O: Outputs>(
-    rt: &'a HostRuntime,
+    rt: &HostRuntime,
     outputs: &O,
     db: &str,
     job: Job<'_, 'a>,
