@@ -61,27 +61,33 @@ fn done_alone<'a, S: RunStore + Drop, P: Opener<S>, O: Outputs>(
     }
 }
 
-/// Does a job over the store at a path, with no other beside: one that only reads over the files as they are, if their log
-/// is not long. A store that is to be refused is refused before anything of it is written, as far as `look_beside` sees it.
-fn work_alone<'a, S: RunStore + Drop, P: Opener<S>, O: Outputs>(
+/// The store at a path, with no other beside, for a job that was not done beside others for this reason. Where nothing is known
+/// of the store, it is only read over the files as they are, if the job only reads and their log is not long; and one that is
+/// to be refused is refused before anything of it is written, as far as `look_beside` sees it.
+fn store_alone_at<S: RunStore + Drop, P: Opener<S>>(
     rt: &HostRuntime,
-    outputs: &O,
     db: &str,
     patience: Patience,
-    job: Job<'_, 'a>,
-) -> Result<Done<S, O::Out>, NotOpened>
-    ensures { IfOk result (WasDone ⟦<File as Read>⟧.remaining O.Out.contents S.StoreState P.Opener.held job.entry O.Outputs.fresh) }
+    job: Job<'_, '_>,
+    unread: Unread,
+) -> Result<S, NotOpened>
+    ensures { IfOk result (RepresentsHeld S.StoreState P.Opener.held) }
 {
-    if job.only_reads() {
-        match P::alone(rt, db, patience) {
-            Ok(store) => return Ok(done_alone::<S, P, O>(rt, outputs, store, job)),
-            Err(refused) if refused.end == OpenError::Memory => return Err(refused),
-            Err(_) => {}
+    match unread {
+        Unread::Moved => return Err(OpenError::Store.into()),
+        Unread::Refused(refused) => return Err(refused),
+        Unread::First => {}
+        Unread::Unfit => {
+            if job.only_reads() {
+                match P::alone(rt, db, patience) {
+                    Err(refused) if refused.end != OpenError::Memory => {}
+                    opened => return opened,
+                }
+            }
+            P::look_beside(rt, db)?;
         }
     }
-    P::look_beside(rt, db)?;
-    let store = store_to_change_at::<S, P>(rt, db, patience, job.cells_to_keep())?;
-    Ok(done_alone::<S, P, O>(rt, outputs, store, job))
+    store_to_change_at::<S, P>(rt, db, patience, job.cells_to_keep())
 }
 
 /// Does a job over the store at a path, which is made where there is none: one that only reads beside others, if it can be
@@ -100,12 +106,9 @@ pub(crate) fn work_at<'a, S: RunStore + Drop, P: Opener<S>, O: Outputs>(
     }
     match work_beside::<S, P, O>(rt, outputs, db, job, patience) {
         Ok(done) => Ok(done),
-        Err(Unread::Moved) => Err(OpenError::Store.into()),
-        Err(Unread::Refused(refused)) => Err(refused),
-        Err(Unread::First) => {
-            let store = store_to_change_at::<S, P>(rt, db, patience, job.cells_to_keep())?;
+        Err(unread) => {
+            let store = store_alone_at::<S, P>(rt, db, patience, job, unread)?;
             Ok(done_alone::<S, P, O>(rt, outputs, store, job))
         }
-        Err(Unread::Unfit) => work_alone::<S, P, O>(rt, outputs, db, patience, job),
     }
 }
