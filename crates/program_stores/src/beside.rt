@@ -58,19 +58,17 @@ fn done_beside<'a, S: RunStore + Drop, P: Opener<S>, O: Outputs>(
     }
 }
 
-/// Does a job that only reads over the store at a path, once. A file that is read without a log is locked for that.
-/// `Standing` says when what was read is what one commit left.
-fn done_once<'a, S: RunStore + Drop, P: Opener<S>, O: Outputs>(
+/// The store at a path, to be read beside others, and what its files were. A file that is read without a log is locked for
+/// that. `Standing` says when what was read is what one commit left.
+fn store_beside_at<S: RunStore + Drop, P: Opener<S>>(
     rt: &HostRuntime,
-    outputs: &O,
     path: &str,
-    job: Job<'_, 'a>,
-) -> Result<Done<S, O::Out>, Unread>
-    ensures { IfOk result (WasDone ⟦<File as Read>⟧.remaining O.Out.contents S.StoreState P.Opener.held job.entry O.Outputs.fresh) }
+) -> Result<(S, Standing), Unread>
+    ensures { IfOk result (λ opened. RepresentsHeld S.StoreState P.Opener.held opened.0) }
 {
     let (store, standing) = P::beside(rt, path)?;
     if standing.is_read_with_log() {
-        done_beside::<S, P, O>(rt, outputs, store, standing, job)
+        Ok((store, standing))
     } else {
         drop(store);
         Err(Unread::Unfit)
@@ -100,11 +98,20 @@ pub(crate) fn work_beside<'a, S: RunStore + Drop, P: Opener<S>, O: Outputs>(
         return Err(Unread::Unfit);
     }
     'tries: for turn in 0..TRIES {
-        match done_once::<S, P, O>(rt, outputs, path, job) {
-            Err(Unread::Moved) if patience.is_left(rt) || turn < LEAST_TRIES => {}
+        let unread = match store_beside_at::<S, P>(rt, path) {
+            Ok((store, standing)) => {
+                match done_beside::<S, P, O>(rt, outputs, store, standing, job) {
+                    Ok(done) => return Ok(done),
+                    Err(moved) => moved,
+                }
+            }
+            Err(unread) => unread,
+        };
+        match unread {
+            Unread::Moved if patience.is_left(rt) || turn < LEAST_TRIES => {}
             // While another makes the files, or opens them, they may be so for a moment.
-            Err(Unread::Unfit) if turn == 0 => {}
-            came_to => return came_to,
+            Unread::Unfit if turn == 0 => {}
+            unread => return Err(unread),
         }
     }
     Err(Unread::Moved)
