@@ -1,14 +1,15 @@
 // Does a job over the store at a path beside others, who may write it meanwhile.
-ghost use Rattle.std.specs.Prelude.{IfOk};
+ghost use Rattle.std.specs.Prelude.{◌≡◌, IfOk, IfSome};
 ghost use Rattle.store_paths.specs.Opened.{RepresentsHeld};
 ghost use Rattle.program_stores.specs.Theorem.{WasDone};
+ghost use Rattle.program_stores.specs.declared.jobs.Job.TheVariants as jobs;
 
 use crate::jobs::{Done, Job, Outputs};
 use crate::telling::tell_remarks;
 use file_disks::{IfStands, Standing};
 use requests::Command;
 use run_stores::RunStore;
-use sessions::WordsCommand;
+use sessions::{WordsCommand, work_over};
 use std::fs;
 use std::fs::File;
 use std::io::Read;
@@ -30,21 +31,21 @@ fn may_be_repeated(rt: &HostRuntime, command: &WordsCommand<'_>) -> bool {
     }
 }
 
-/// Does a job that only reads over a store that was read beside others, and prints what it comes to if what was read stood
+/// Does commands that only read over a store that was read beside others, and prints what they come to if what was read stood
 /// still: else nothing was printed.
 fn done_beside<'a, S: RunStore + Drop, P: Opener<S>, O: Outputs>(
     rt: &HostRuntime,
     outputs: &O,
     store: S,
     standing: Standing,
-    job: Job<'_, 'a>,
+    commands: &[WordsCommand<'a>],
 ) -> Result<Done<S, O::Out>, Unread>
     ensures { RepresentsHeld S.StoreState P.Opener.held store
-        → IfOk result (WasDone ⟦<File as Read>⟧.remaining O.Out.contents S.StoreState P.Opener.held job.entry O.Outputs.fresh) }
+        → IfOk result (WasDone ⟦<File as Read>⟧.remaining O.Out.contents S.StoreState P.Opener.held (jobs.Run commands.entry) O.Outputs.fresh) }
 {
     let mut remarks = Vec::new(rt.alloc());
     let out = IfStands::new(outputs.next(), rt, Some(standing));
-    let (came_to, mut out, store) = job.over(rt, out, store, &mut remarks);
+    let (came_to, mut out, store) = work_over(rt, out, store, commands, &mut remarks);
     if out.has_stood() {
         tell_remarks(rt, &remarks);
         Ok(Done {
@@ -75,11 +76,19 @@ fn store_beside_at<S: RunStore + Drop, P: Opener<S>>(
     }
 }
 
-/// Whether a job may be done beside others: commands that only read. No guarantee: as `may_be_repeated`.
-fn may_be_beside(rt: &HostRuntime, job: Job<'_, '_>) -> bool {
+/// The commands of a job that may be done beside others: they only read. Which do, no clause says, as of `may_be_repeated`.
+fn commands_beside<'c, 'a>(
+    rt: &HostRuntime,
+    path: &str,
+    job: Job<'c, 'a>,
+) -> Option<&'c [WordsCommand<'a>]>
+    ensures { IfSome result (λ commands. job.entry ≡ jobs.Run commands) }
+{
     match job {
-        Job::Run(commands) => commands.iter().all(|command| may_be_repeated(rt, command)),
-        Job::Serve(_) => false,
+        Job::Run(commands)
+            if !is_no_file(path) && commands.iter().all(|command| may_be_repeated(rt, command)) =>
+            Some(commands),
+        _ => None,
     }
 }
 
@@ -94,13 +103,13 @@ pub(crate) fn work_beside<'a, S: RunStore + Drop, P: Opener<S>, O: Outputs>(
 ) -> Result<Done<S, O::Out>, Unread>
     ensures { IfOk result (WasDone ⟦<File as Read>⟧.remaining O.Out.contents S.StoreState P.Opener.held job.entry O.Outputs.fresh) }
 {
-    if is_no_file(path) || !may_be_beside(rt, job) {
+    let Some(commands) = commands_beside(rt, path, job) else {
         return Err(Unread::Unfit);
-    }
+    };
     'tries: for turn in 0..TRIES {
         let unread = match store_beside_at::<S, P>(rt, path) {
             Ok((store, standing)) => {
-                match done_beside::<S, P, O>(rt, outputs, store, standing, job) {
+                match done_beside::<S, P, O>(rt, outputs, store, standing, commands) {
                     Ok(done) => return Ok(done),
                     Err(moved) => moved,
                 }

@@ -7,7 +7,9 @@ use crate::beside::work_beside;
 use crate::jobs::{Done, Job, Outputs};
 use crate::telling::{tell_person, tell_remarks};
 use file_disks::IfStands;
+use prof_http::serve_over;
 use run_stores::RunStore;
+use sessions::work_over;
 use std::fs::File;
 use std::io::Read;
 use std::rt::HostRuntime;
@@ -48,15 +50,24 @@ fn done_alone<'a, S: RunStore + Drop, P: Opener<S>, O: Outputs>(
     ensures { RepresentsHeld S.StoreState P.Opener.held store
         → WasDone ⟦<File as Read>⟧.remaining O.Out.contents S.StoreState P.Opener.held job.entry O.Outputs.fresh result }
 {
-    let mut remarks = Vec::new(rt.alloc());
-    // (what prints is of one type, so that it is compiled once)
-    let out = IfStands::new(outputs.next(), rt, None);
-    let (came_to, out, mut store) = job.over(rt, out, store, &mut remarks);
-    tell_remarks(rt, &remarks);
+    let (came_to, out, mut store) = match job {
+        Job::Run(commands) => {
+            let mut remarks = Vec::new(rt.alloc());
+            // (what prints is of one type, so that it is compiled once)
+            let out = IfStands::new(outputs.next(), rt, None);
+            let (came_to, out, store) = work_over(rt, out, store, commands, &mut remarks);
+            tell_remarks(rt, &remarks);
+            (came_to, out.into_out(), store)
+        }
+        Job::Serve(service) => {
+            let (came_to, store) = serve_over(rt, store, service);
+            (came_to, outputs.next(), store)
+        }
+    };
     let _copied = P::checkpoint(&mut store);
     Done {
         came_to,
-        out: out.into_out(),
+        out,
         store,
     }
 }
