@@ -1,4 +1,4 @@
-// Does a job over the store at a path beside others, who may write it meanwhile.
+// Commands are done over the store at a path beside others, who may write it meanwhile.
 ghost use Rattle.std.specs.Prelude.{◌≡◌, IfOk, IfSome};
 ghost use Rattle.store_paths.specs.Opened.{RepresentsHeld};
 ghost use Rattle.program_stores.specs.Theorem.{WasDone};
@@ -14,10 +14,7 @@ use std::fs;
 use std::fs::File;
 use std::io::Read;
 use std::rt::HostRuntime;
-use store_paths::{Opener, Patience, TRIES, Unread, is_no_file};
-
-/// So often it is tried, even where that takes longer than patience lasts.
-const LEAST_TRIES: u32 = 3;
+use store_paths::{Opener, Unread, is_no_file};
 
 /// Whether a command changes nothing, and what it reads beside the store can be read once more: a pipe cannot. No
 /// guarantee: of files the checker knows nothing.
@@ -31,14 +28,47 @@ fn may_be_repeated(rt: &HostRuntime, command: &WordsCommand<'_>) -> bool {
     }
 }
 
+/// The commands of a job that may be done beside others: they only read. Which do, no clause says, as of `may_be_repeated`.
+pub(crate) fn commands_beside<'c, 'a>(
+    rt: &HostRuntime,
+    path: &str,
+    job: Job<'c, 'a>,
+) -> Option<&'c [WordsCommand<'a>]>
+    ensures { IfSome result (λ commands. job.entry ≡ jobs.Run commands) }
+{
+    match job {
+        Job::Run(commands)
+            if !is_no_file(path) && commands.iter().all(|command| may_be_repeated(rt, command)) =>
+            Some(commands),
+        _ => None,
+    }
+}
+
+/// The store at a path, to be read beside others, and what its files were. A file that is read without a log is locked for
+/// that. `Standing` says when what was read is what one commit left.
+pub(crate) fn store_beside_at<S: RunStore + Drop, P: Opener<S>>(
+    rt: &HostRuntime,
+    path: &str,
+) -> Result<(S, Standing), Unread>
+    ensures { IfOk result (λ opened. RepresentsHeld S.StoreState P.Opener.held opened.0) }
+{
+    let (store, standing) = P::beside(rt, path)?;
+    if standing.is_read_with_log() {
+        Ok((store, standing))
+    } else {
+        drop(store);
+        Err(Unread::Unfit)
+    }
+}
+
 /// Does commands that only read over a store that was read beside others, and prints what they come to if what was read stood
 /// still: else nothing was printed.
-fn done_beside<'a, S: RunStore + Drop, P: Opener<S>, O: Outputs>(
+pub(crate) fn done_beside<S: RunStore + Drop, P: Opener<S>, O: Outputs>(
     rt: &HostRuntime,
     outputs: &O,
     store: S,
     standing: Standing,
-    commands: &[WordsCommand<'a>],
+    commands: &[WordsCommand<'_>],
 ) -> Result<Done<S, O::Out>, Unread>
     ensures { RepresentsHeld S.StoreState P.Opener.held store
         → IfOk result (WasDone ⟦<File as Read>⟧.remaining O.Out.contents S.StoreState P.Opener.held (jobs.Run commands.entry) O.Outputs.fresh) }
@@ -57,71 +87,4 @@ fn done_beside<'a, S: RunStore + Drop, P: Opener<S>, O: Outputs>(
         drop((out, store));
         Err(Unread::Moved)
     }
-}
-
-/// The store at a path, to be read beside others, and what its files were. A file that is read without a log is locked for
-/// that. `Standing` says when what was read is what one commit left.
-fn store_beside_at<S: RunStore + Drop, P: Opener<S>>(
-    rt: &HostRuntime,
-    path: &str,
-) -> Result<(S, Standing), Unread>
-    ensures { IfOk result (λ opened. RepresentsHeld S.StoreState P.Opener.held opened.0) }
-{
-    let (store, standing) = P::beside(rt, path)?;
-    if standing.is_read_with_log() {
-        Ok((store, standing))
-    } else {
-        drop(store);
-        Err(Unread::Unfit)
-    }
-}
-
-/// The commands of a job that may be done beside others: they only read. Which do, no clause says, as of `may_be_repeated`.
-fn commands_beside<'c, 'a>(
-    rt: &HostRuntime,
-    path: &str,
-    job: Job<'c, 'a>,
-) -> Option<&'c [WordsCommand<'a>]>
-    ensures { IfSome result (λ commands. job.entry ≡ jobs.Run commands) }
-{
-    match job {
-        Job::Run(commands)
-            if !is_no_file(path) && commands.iter().all(|command| may_be_repeated(rt, command)) =>
-            Some(commands),
-        _ => None,
-    }
-}
-
-/// Does a job over the store at a path beside others, if it only reads: no lock is taken, and nothing is made or changed.
-/// Where others write meanwhile, it begins anew, as long as patience lasts. `P` says what the files held when it was done.
-pub(crate) fn work_beside<'a, S: RunStore + Drop, P: Opener<S>, O: Outputs>(
-    rt: &HostRuntime,
-    outputs: &O,
-    path: &str,
-    job: Job<'_, 'a>,
-    patience: Patience,
-) -> Result<Done<S, O::Out>, Unread>
-    ensures { IfOk result (WasDone ⟦<File as Read>⟧.remaining O.Out.contents S.StoreState P.Opener.held job.entry O.Outputs.fresh) }
-{
-    let Some(commands) = commands_beside(rt, path, job) else {
-        return Err(Unread::Unfit);
-    };
-    'tries: for turn in 0..TRIES {
-        let unread = match store_beside_at::<S, P>(rt, path) {
-            Ok((store, standing)) => {
-                match done_beside::<S, P, O>(rt, outputs, store, standing, commands) {
-                    Ok(done) => return Ok(done),
-                    Err(moved) => moved,
-                }
-            }
-            Err(unread) => unread,
-        };
-        match unread {
-            Unread::Moved if patience.is_left(rt) || turn < LEAST_TRIES => {}
-            // While another makes the files, or opens them, they may be so for a moment.
-            Unread::Unfit if turn == 0 => {}
-            unread => return Err(unread),
-        }
-    }
-    Err(Unread::Moved)
 }

@@ -3,7 +3,7 @@ ghost use Rattle.std.specs.Prelude.{IfOk};
 ghost use Rattle.store_paths.specs.Opened.{RepresentsHeld};
 ghost use Rattle.program_stores.specs.Theorem.{WasDone};
 
-use crate::beside::work_beside;
+use crate::beside::{commands_beside, done_beside, store_beside_at};
 use crate::jobs::{Done, Job, Outputs};
 use crate::telling::{tell_person, tell_remarks};
 use file_disks::IfStands;
@@ -13,8 +13,11 @@ use sessions::work_over;
 use std::fs::File;
 use std::io::Read;
 use std::rt::HostRuntime;
-use store_paths::{NotOpened, Opener, Patience, Unread};
+use store_paths::{NotOpened, Opener, Patience, TRIES, Unread};
 use store_schema::OpenError;
+
+/// So often a job is tried beside others, even where that takes longer than patience lasts.
+const LEAST_TRIES: u32 = 3;
 
 /// The store at a path, to be changed with no other beside. What is not plainly ours is looked at in its database first,
 /// which migrates a store of version 1 and says what is wrong with others; `P` says what the files hold then.
@@ -41,11 +44,11 @@ fn store_to_change_at<S: RunStore + Drop, P: Opener<S>>(
 
 /// Does a job over a store that no other has open, and copies what was committed from the log into the file; where that
 /// fails, as over files that are only read, it stands in the log, and the next opening finds it there.
-fn done_alone<'a, S: RunStore + Drop, P: Opener<S>, O: Outputs>(
+fn done_alone<S: RunStore + Drop, P: Opener<S>, O: Outputs>(
     rt: &HostRuntime,
     outputs: &O,
     store: S,
-    job: Job<'_, 'a>,
+    job: Job<'_, '_>,
 ) -> Done<S, O::Out>
     ensures { RepresentsHeld S.StoreState P.Opener.held store
         → WasDone ⟦<File as Read>⟧.remaining O.Out.contents S.StoreState P.Opener.held job.entry O.Outputs.fresh result }
@@ -102,12 +105,14 @@ fn store_alone_at<S: RunStore + Drop, P: Opener<S>>(
 }
 
 /// Does a job over the store at a path, which is made where there is none: one that only reads beside others, if it can be
-/// read so. `P` says what the files held when the store was opened over which it was done, whoever had made or changed them.
-pub(crate) fn work_at<'a, S: RunStore + Drop, P: Opener<S>, O: Outputs>(
+/// read so; no lock is taken then, and nothing is made or changed. Where others write meanwhile, it begins anew, as long as
+/// patience lasts. `P` says what the files held when the store was opened over which it was done, whoever had made or
+/// changed them.
+pub(crate) fn work_at<S: RunStore + Drop, P: Opener<S>, O: Outputs>(
     rt: &HostRuntime,
     outputs: &O,
     db: &str,
-    job: Job<'_, 'a>,
+    job: Job<'_, '_>,
 ) -> Result<Done<S, O::Out>, NotOpened>
     ensures { IfOk result (WasDone ⟦<File as Read>⟧.remaining O.Out.contents S.StoreState P.Opener.held job.entry O.Outputs.fresh) }
 {
@@ -115,11 +120,27 @@ pub(crate) fn work_at<'a, S: RunStore + Drop, P: Opener<S>, O: Outputs>(
     if P::make_missing(rt, db, patience)? {
         tell_person(rt, db, "it is new");
     }
-    match work_beside::<S, P, O>(rt, outputs, db, job, patience) {
-        Ok(done) => Ok(done),
-        Err(unread) => {
-            let store = store_alone_at::<S, P>(rt, db, patience, job, unread)?;
-            Ok(done_alone::<S, P, O>(rt, outputs, store, job))
+    // Why it is not done beside others.
+    let mut unread = Unread::Unfit;
+    if let Some(commands) = commands_beside(rt, db, job) {
+        'tries: for turn in 0..TRIES {
+            unread = match store_beside_at::<S, P>(rt, db) {
+                Ok((store, standing)) => {
+                    match done_beside::<S, P, O>(rt, outputs, store, standing, commands) {
+                        Ok(done) => return Ok(done),
+                        Err(moved) => moved,
+                    }
+                }
+                Err(unread) => unread,
+            };
+            match unread {
+                Unread::Moved if patience.is_left(rt) || turn < LEAST_TRIES => {}
+                // While another makes the files, or opens them, they may be so for a moment.
+                Unread::Unfit if turn == 0 => {}
+                _ => break 'tries,
+            }
         }
     }
+    let store = store_alone_at::<S, P>(rt, db, patience, job, unread)?;
+    Ok(done_alone::<S, P, O>(rt, outputs, store, job))
 }
