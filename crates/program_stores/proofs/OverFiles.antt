@@ -1,5 +1,6 @@
 -- A work over the store in files, and what comes behind it.
 use Rattle.std.proofs.Common.{subst, sym, inl, inr}
+use Rattle.std.specs.Borrow.{Bor}
 use Rattle.std.specs.Prelude.{◌≡◌, ℕ, Bool, List, Option, Result}
 use Rattle.run_stores.specs.declared.states.StoreState.{Ghosts}
 use Rattle.run_stores.specs.Calls.{Asks, IsFaithful, Represents}
@@ -10,10 +11,14 @@ use Rattle.histories.proofs.Left.{left_after, left_standing}
 use Rattle.histories.specs.declared.limits.Limits.{Limits}
 use Rattle.warehouse.specs.Taken.{CameTo}
 use Rattle.warehouse.proofs.Taken.{taken_clean}
+use Rattle.requests.specs.declared.commands.Command.{Command}
+use Rattle.prof_http.specs.Served.{AreOfRequests}
+use Rattle.prof_http.specs.declared.serving.Service.{Service}
+use Rattle.sessions.specs.Sessions.{Wants}
+use Rattle.sessions.specs.Works.{WerePrinted}
 use Rattle.store_paths.specs.Opened.{RepresentsHeld}
 use Rattle.program_stores.specs.Theorem.{Works}
 use Rattle.program_stores.specs.Jobs.{Tells}
-use Rattle.program_stores.specs.declared.jobs.Job.{Job}
 use Rattle.program_stores.specs.declared.jobs.Job.TheVariants as jobs
 
 module _ {S : Type 0} (g : Ghosts S) (held : Tables → Type 0) (Says : Limits → History → Type 0) where
@@ -64,22 +69,24 @@ module _ {S : Type 0} (g : Ghosts S) (held : Tables → Type 0) (Says : Limits �
         left = λ left may. elim (asked.crash left may) [ inl before ↦ is.left left before | inr none ↦ absurd none ];
       }
 
-module _ {F V W : Type 0} (remaining : F → Option (List ℕ)) (contents : W → Option (List ℕ)) (inner : V → W) where
-  -- what is said of a writer around another is said of that
-  tells_inner : {S E : Type 0} (g : Ghosts S) (job : Job) (start : Option (List ℕ)) (result : Result ℕ E) (out : V) (limits : Limits) (steps : History)
-      → Tells remaining (λ v. contents (inner v)) g job start result out limits steps → Tells remaining contents g job start result (inner out) limits steps
-  tells_inner g (jobs.Run commands) start result out limits steps tells =
-      (inner tells.0, tells.1, record { rest = tells.2.rest; commands = tells.2.commands; told = tells.2.told })
-  tells_inner g (jobs.Serve service) start result out limits steps tells = tells
+module _ {F W S : Type 0} (remaining : F → Option (List ℕ)) (contents : W → Option (List ℕ)) (g : Ghosts S)
+    (survives : (t : Tables) (store : S) (left : g.Left) → Represents g t store → g.may_leave store left → g.holds t left) (held : Tables → Type 0) where
+  -- of commands over a store that was opened in the files, which printed through a writer around another
+  pub ran_over : {V E : Type 0} (inner : V → W) (commands : Bor (List (Command (Bor (List ℕ)) (Bor (List ℕ))))) (fresh : Option (List ℕ)) (result : Result ℕ E) (from out : V) (to : W) (old new : S)
+      → contents (inner from) ≡ fresh → to ≡ inner out → RepresentsHeld g held old
+      → (IsFaithful g new → CameTo g (λ _ steps. WerePrinted (λ v. contents (inner v)) (Wants remaining commands.now) result from out steps) old new)
+      → Works g held (Tells remaining contents g (jobs.Run commands) fresh result to) new
+  ran_over inner commands fresh result from out to old new begins ends is came =
+      works_as g held (λ _ steps. WerePrinted (λ v. contents (inner v)) (Wants remaining commands.now) result from out steps) (Tells remaining contents g (jobs.Run commands) fresh result to) new
+      (λ limits steps told. subst (λ it. Tells remaining contents g (jobs.Run commands) fresh result it limits steps) (sym ends)
+      (inner from, begins, record { rest = told.rest; commands = told.commands; told = told.told }))
+      (works_over g held (λ _ steps. WerePrinted (λ v. contents (inner v)) (Wants remaining commands.now) result from out steps) survives old new is came)
 
-  -- so of a job over a store that was opened in the files, which printed through it
-  pub done_through : {S E : Type 0} (g : Ghosts S) → ((t : Tables) (store : S) (left : g.Left) → Represents g t store → g.may_leave store left → g.holds t left)
-      → (held : Tables → Type 0) (job : Job) (start fresh : Option (List ℕ)) (result : Result ℕ E) (out : V) (to : W) (old new : S)
-      → start ≡ fresh → to ≡ inner out → RepresentsHeld g held old → (IsFaithful g new → CameTo g (Tells remaining (λ v. contents (inner v)) g job start result out) old new)
-      → Works g held (Tells remaining contents g job fresh result to) new
-  done_through g survives held job start fresh result out to old new begins ends is came =
-      works_as g held (Tells remaining (λ v. contents (inner v)) g job start result out) (Tells remaining contents g job fresh result to) new
-      (λ limits steps tells. subst (λ it. Tells remaining contents g job fresh result it limits steps) (sym ends)
-      (subst (λ it. Tells remaining contents g job it result (inner out) limits steps) begins
-      (tells_inner g job start result out limits steps tells)))
-      (works_over g held (Tells remaining (λ v. contents (inner v)) g job start result out) survives old new is came)
+  -- of a server
+  pub served_over : {E : Type 0} (service : Service) (fresh : Option (List ℕ)) (result : Result ℕ E) (to : W) (old new : S)
+      → RepresentsHeld g held old → (IsFaithful g new → CameTo g (AreOfRequests g service.requests old new) old new)
+      → Works g held (Tells remaining contents g (jobs.Serve service) fresh result to) new
+  served_over service fresh result to old new is came =
+      works_as g held (AreOfRequests g service.requests old new) (Tells remaining contents g (jobs.Serve service) fresh result to) new
+      (λ limits steps are. (old, new, are))
+      (works_over g held (AreOfRequests g service.requests old new) survives old new is came)

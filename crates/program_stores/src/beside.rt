@@ -1,22 +1,20 @@
-// Does a job over the store at a path beside others, who may write it meanwhile.
-ghost use Rattle.std.specs.Prelude.{IfOk};
+// Commands are done over the store at a path beside others, who may write it meanwhile.
+ghost use Rattle.std.specs.Prelude.{◌≡◌, IfOk, IfSome};
 ghost use Rattle.store_paths.specs.Opened.{RepresentsHeld};
 ghost use Rattle.program_stores.specs.Theorem.{WasDone};
+ghost use Rattle.program_stores.specs.declared.jobs.Job.TheVariants as jobs;
 
 use crate::jobs::{Done, Job, Outputs};
 use crate::telling::tell_remarks;
 use file_disks::{IfStands, Standing};
 use requests::Command;
 use run_stores::RunStore;
-use sessions::WordsCommand;
+use sessions::{WordsCommand, work_over};
 use std::fs;
 use std::fs::File;
 use std::io::Read;
 use std::rt::HostRuntime;
-use store_paths::{Opener, Patience, TRIES, Unread, is_no_file};
-
-/// So often it is tried, even where that takes longer than patience lasts.
-const LEAST_TRIES: u32 = 3;
+use store_paths::{Opener, Unread, is_no_file};
 
 /// Whether a command changes nothing, and what it reads beside the store can be read once more: a pipe cannot. No
 /// guarantee: of files the checker knows nothing.
@@ -30,21 +28,54 @@ fn may_be_repeated(rt: &HostRuntime, command: &WordsCommand<'_>) -> bool {
     }
 }
 
-/// Does a job that only reads over a store that was read beside others, and prints what it comes to if what was read stood
+/// The commands of a job that may be done beside others: they only read. Which do, no clause says, as of `may_be_repeated`.
+pub(crate) fn commands_beside<'c, 'a>(
+    rt: &HostRuntime,
+    path: &str,
+    job: Job<'c, 'a>,
+) -> Option<&'c [WordsCommand<'a>]>
+    ensures { IfSome result (λ commands. job.entry ≡ jobs.Run commands) }
+{
+    match job {
+        Job::Run(commands)
+            if !is_no_file(path) && commands.iter().all(|command| may_be_repeated(rt, command)) =>
+            Some(commands),
+        _ => None,
+    }
+}
+
+/// The store at a path, to be read beside others, and what its files were. A file that is read without a log is locked for
+/// that. `Standing` says when what was read is what one commit left.
+pub(crate) fn store_beside_at<S: RunStore + Drop, P: Opener<S>>(
+    rt: &HostRuntime,
+    path: &str,
+) -> Result<(S, Standing), Unread>
+    ensures { IfOk result (λ opened. RepresentsHeld S.StoreState P.Opener.held opened.0) }
+{
+    let (store, standing) = P::beside(rt, path)?;
+    if standing.is_read_with_log() {
+        Ok((store, standing))
+    } else {
+        drop(store);
+        Err(Unread::Unfit)
+    }
+}
+
+/// Does commands that only read over a store that was read beside others, and prints what they come to if what was read stood
 /// still: else nothing was printed.
-fn done_beside<'a, S: RunStore + Drop, P: Opener<S>, O: Outputs>(
-    rt: &'a HostRuntime,
+pub(crate) fn done_beside<S: RunStore + Drop, P: Opener<S>, O: Outputs>(
+    rt: &HostRuntime,
     outputs: &O,
     store: S,
     standing: Standing,
-    job: Job<'_, 'a>,
+    commands: &[WordsCommand<'_>],
 ) -> Result<Done<S, O::Out>, Unread>
     ensures { RepresentsHeld S.StoreState P.Opener.held store
-        → IfOk result (WasDone ⟦<File as Read>⟧.remaining O.Out.contents S.StoreState P.Opener.held job.entry O.Outputs.fresh) }
+        → IfOk result (WasDone ⟦<File as Read>⟧.remaining O.Out.contents S.StoreState P.Opener.held (jobs.Run commands.entry) O.Outputs.fresh) }
 {
     let mut remarks = Vec::new(rt.alloc());
     let out = IfStands::new(outputs.next(), rt, Some(standing));
-    let (came_to, mut out, store) = job.over(rt, out, store, &mut remarks);
+    let (came_to, mut out, store) = work_over(rt, out, store, commands, &mut remarks);
     if out.has_stood() {
         tell_remarks(rt, &remarks);
         Ok(Done {
@@ -56,56 +87,4 @@ fn done_beside<'a, S: RunStore + Drop, P: Opener<S>, O: Outputs>(
         drop((out, store));
         Err(Unread::Moved)
     }
-}
-
-/// Does a job that only reads over the store at a path, once. A file that is read without a log is locked for that.
-/// `Standing` says when what was read is what one commit left.
-fn done_once<'a, S: RunStore + Drop, P: Opener<S>, O: Outputs>(
-    rt: &'a HostRuntime,
-    outputs: &O,
-    path: &str,
-    job: Job<'_, 'a>,
-) -> Result<Done<S, O::Out>, Unread>
-    ensures { IfOk result (WasDone ⟦<File as Read>⟧.remaining O.Out.contents S.StoreState P.Opener.held job.entry O.Outputs.fresh) }
-{
-    let (store, standing) = P::beside(rt, path)?;
-    if standing.is_read_with_log() {
-        done_beside::<S, P, O>(rt, outputs, store, standing, job)
-    } else {
-        drop(store);
-        Err(Unread::Unfit)
-    }
-}
-
-/// Whether a job may be done beside others: commands that only read. No guarantee: as `may_be_repeated`.
-fn may_be_beside(rt: &HostRuntime, job: Job<'_, '_>) -> bool {
-    match job {
-        Job::Run(commands) => commands.iter().all(|command| may_be_repeated(rt, command)),
-        Job::Serve(_) => false,
-    }
-}
-
-/// Does a job over the store at a path beside others, if it only reads: no lock is taken, and nothing is made or changed.
-/// Where others write meanwhile, it begins anew, as long as patience lasts. `P` says what the files held when it was done.
-pub(crate) fn work_beside<'a, S: RunStore + Drop, P: Opener<S>, O: Outputs>(
-    rt: &'a HostRuntime,
-    outputs: &O,
-    path: &str,
-    job: Job<'_, 'a>,
-    patience: Patience,
-) -> Result<Done<S, O::Out>, Unread>
-    ensures { IfOk result (WasDone ⟦<File as Read>⟧.remaining O.Out.contents S.StoreState P.Opener.held job.entry O.Outputs.fresh) }
-{
-    if is_no_file(path) || !may_be_beside(rt, job) {
-        return Err(Unread::Unfit);
-    }
-    'tries: for turn in 0..TRIES {
-        match done_once::<S, P, O>(rt, outputs, path, job) {
-            Err(Unread::Moved) if patience.is_left(rt) || turn < LEAST_TRIES => {}
-            // While another makes the files, or opens them, they may be so for a moment.
-            Err(Unread::Unfit) if turn == 0 => {}
-            came_to => return came_to,
-        }
-    }
-    Err(Unread::Moved)
 }

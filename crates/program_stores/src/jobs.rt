@@ -1,19 +1,13 @@
 // What is done over the store that is opened for it.
 ghost use Rattle.std.specs.Prelude.{◌≡◌, ◌≤◌, ℕ, List, Option};
 ghost use Rattle.std.specs.List.{list_all};
-ghost use Rattle.run_stores.specs.Calls.{IsFaithful};
 ghost use Rattle.program_stores.specs.Jobs as specs;
-ghost use Rattle.program_stores.specs.Jobs.{Tells};
 ghost use Rattle.requests.specs.Plain.{only_reads};
-ghost use Rattle.warehouse.specs.Taken.{CameTo};
 
-use prof_http::{Service, serve_over};
-use run_stores::RunStore;
-use sessions::{Remark, WordsCommand, work_over};
-use std::fs::File;
+use prof_http::Service;
+use sessions::WordsCommand;
 use std::io;
-use std::io::{Read, Write};
-use std::rt::HostRuntime;
+use std::io::Write;
 
 /// Where a command prints: one for each time that it is tried.
 pub trait Outputs {
@@ -41,28 +35,7 @@ pub(crate) enum Job<'c, 'a> {
     Serve(Service),
 }
 
-impl<'a> Job<'_, 'a> {
-    /// Does it over any store, and prints what is to be printed. What was found of the files that commands read is kept
-    /// beside.
-    pub(crate) fn over<W: Write + Drop, T: RunStore>(
-        self,
-        rt: &'a HostRuntime,
-        out: W,
-        store: T,
-        remarks: &mut Vec<Remark<'a>>,
-    ) -> (io::Result<u8>, W, T)
-        ensures { IsFaithful T.StoreState result.2
-            → CameTo T.StoreState (Tells ⟦<File as Read>⟧.remaining W.contents T.StoreState self.entry (W.contents out) result.0 result.1) store result.2 }
-    {
-        match self {
-            Job::Run(commands) => work_over(rt, out, store, commands, remarks),
-            Job::Serve(service) => {
-                let (came_to, store) = serve_over(rt, store, service);
-                (came_to, out, store)
-            }
-        }
-    }
-
+impl Job<'_, '_> {
     /// How many cells of small runs are kept in memory for it, 4 MB by a server.
     pub(crate) fn cells_to_keep(&self) -> usize
         ensures value { result ≡ specs.cells_to_keep self.now }

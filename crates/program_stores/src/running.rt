@@ -80,31 +80,6 @@ fn run_total(rt: &HostRuntime, path: &str) -> io::Result<ExitCode> {
     Ok(ExitCode::from(status))
 }
 
-/// Does a job over the store at a path, and prints why where none is opened. No guarantee: as `status_of`.
-fn run_job<'a, S: RunStore + Drop, P: Opener<S>, O: Outputs>(
-    rt: &'a HostRuntime,
-    outputs: &O,
-    db: &str,
-    job: Job<'_, 'a>,
-) -> io::Result<ExitCode> {
-    let came_to = work_at::<S, P, O>(rt, outputs, db, job);
-    status_of::<S, P, O::Out>(rt, db, came_to)
-}
-
-/// Runs the commands of a plan that has such. No guarantee: as `run_plan`.
-fn run_commands<'a, S: RunStore + Drop, P: Opener<S>, O: Outputs>(
-    rt: &'a HostRuntime,
-    outputs: &O,
-    plan: &Plan<'a>,
-) -> io::Result<ExitCode>
-    requires { HasCommands plan.now }
-{
-    match commands_of(rt.alloc(), plan) {
-        Ok((db, commands)) => { run_job::<S, P, O>(rt, outputs, db, Job::Run(commands.as_slice())) }
-        Err(AllocError) => print_refused(rt, "out of memory"),
-    }
-}
-
 /// What a plan asks for.
 enum Asked<'p> {
     Total(&'p str),
@@ -136,20 +111,6 @@ fn asked_of<'p>(plan: &'p Plan<'_>) -> Asked<'p>
     }
 }
 
-/// Does what a plan says, and prints what it came to. No guarantee: which files stand at the paths of a plan
-/// the checker does not know; `commands_of`, `total_read` and `work_over` say what is made of them.
-fn run_plan<'a, S: RunStore + Drop, P: Opener<S>, O: Outputs>(
-    rt: &'a HostRuntime,
-    outputs: &O,
-    plan: &Plan<'a>,
-) -> io::Result<ExitCode> {
-    match asked_of(plan) {
-        Asked::Total(path) => run_total(rt, path),
-        Asked::Serve(db, service) => run_job::<S, P, O>(rt, outputs, db, Job::Serve(service)),
-        Asked::Commands => run_commands::<S, P, O>(rt, outputs, plan),
-    }
-}
-
 /// Prints why words are no plan. No guarantee: of what is printed the checker knows nothing; `plan` says which end comes of
 /// which words.
 fn print_unplanned(rt: &HostRuntime, end: PlanEnd) -> io::Result<ExitCode> {
@@ -167,15 +128,30 @@ fn print_unplanned(rt: &HostRuntime, end: PlanEnd) -> io::Result<ExitCode> {
     Ok(ExitCode::from(2))
 }
 
-/// Does what the words that the program was started with say. No guarantee: as `run_plan`.
+/// Does what the words that the program was started with say, and prints what it came to. No guarantee: which files stand at
+/// the paths of a plan the checker does not know; `commands_of`, `total_read` and `work_at` say what is made of them.
 pub fn run<S: RunStore + Drop, P: Opener<S>, O: Outputs>(
     rt: &HostRuntime,
     outputs: &O,
 ) -> Result<ExitCode> {
     let words: Vec<String> = env::args(rt)?.collect(rt.alloc())?;
     let status = match plan(rt.alloc(), words.as_slice()) {
-        Ok(plan) => run_plan::<S, P, O>(rt, outputs, &plan)?,
-        Err(end) => print_unplanned(rt, end)?,
+        Ok(plan) => match asked_of(&plan) {
+            Asked::Total(path) => run_total(rt, path),
+            Asked::Serve(db, service) => {
+                let came_to = work_at::<S, P, O>(rt, outputs, db, Job::Serve(service));
+                status_of::<S, P, O::Out>(rt, db, came_to)
+            }
+            Asked::Commands => match commands_of(rt.alloc(), &plan) {
+                Ok((db, commands)) => {
+                    let job = Job::Run(commands.as_slice());
+                    let came_to = work_at::<S, P, O>(rt, outputs, db, job);
+                    status_of::<S, P, O::Out>(rt, db, came_to)
+                }
+                Err(AllocError) => print_refused(rt, "out of memory"),
+            },
+        },
+        Err(end) => print_unplanned(rt, end),
     };
-    Ok(status)
+    Ok(status?)
 }

@@ -3,16 +3,21 @@ ghost use Rattle.std.specs.Prelude.{IfOk};
 ghost use Rattle.store_paths.specs.Opened.{RepresentsHeld};
 ghost use Rattle.program_stores.specs.Theorem.{WasDone};
 
-use crate::beside::work_beside;
+use crate::beside::{commands_beside, done_beside, store_beside_at};
 use crate::jobs::{Done, Job, Outputs};
 use crate::telling::{tell_person, tell_remarks};
 use file_disks::IfStands;
+use prof_http::serve_over;
 use run_stores::RunStore;
+use sessions::work_over;
 use std::fs::File;
 use std::io::Read;
 use std::rt::HostRuntime;
-use store_paths::{NotOpened, Opener, Patience, Unread};
+use store_paths::{NotOpened, Opener, Patience, TRIES, Unread};
 use store_schema::OpenError;
+
+/// So often a job is tried beside others, even where that takes longer than patience lasts.
+const LEAST_TRIES: u32 = 3;
 
 /// The store at a path, to be changed with no other beside. What is not plainly ours is looked at in its database first,
 /// which migrates a store of version 1 and says what is wrong with others; `P` says what the files hold then.
@@ -39,58 +44,75 @@ fn store_to_change_at<S: RunStore + Drop, P: Opener<S>>(
 
 /// Does a job over a store that no other has open, and copies what was committed from the log into the file; where that
 /// fails, as over files that are only read, it stands in the log, and the next opening finds it there.
-fn done_alone<'a, S: RunStore + Drop, P: Opener<S>, O: Outputs>(
-    rt: &'a HostRuntime,
+fn done_alone<S: RunStore + Drop, P: Opener<S>, O: Outputs>(
+    rt: &HostRuntime,
     outputs: &O,
     store: S,
-    job: Job<'_, 'a>,
+    job: Job<'_, '_>,
 ) -> Done<S, O::Out>
     ensures { RepresentsHeld S.StoreState P.Opener.held store
         → WasDone ⟦<File as Read>⟧.remaining O.Out.contents S.StoreState P.Opener.held job.entry O.Outputs.fresh result }
 {
-    let mut remarks = Vec::new(rt.alloc());
-    // (what prints is of one type, so that it is compiled once)
-    let out = IfStands::new(outputs.next(), rt, None);
-    let (came_to, out, mut store) = job.over(rt, out, store, &mut remarks);
-    tell_remarks(rt, &remarks);
+    let (came_to, out, mut store) = match job {
+        Job::Run(commands) => {
+            let mut remarks = Vec::new(rt.alloc());
+            // (what prints is of one type, so that it is compiled once)
+            let out = IfStands::new(outputs.next(), rt, None);
+            let (came_to, out, store) = work_over(rt, out, store, commands, &mut remarks);
+            tell_remarks(rt, &remarks);
+            (came_to, out.into_out(), store)
+        }
+        Job::Serve(service) => {
+            let (came_to, store) = serve_over(rt, store, service);
+            (came_to, outputs.next(), store)
+        }
+    };
     let _copied = P::checkpoint(&mut store);
     Done {
         came_to,
-        out: out.into_out(),
+        out,
         store,
     }
 }
 
-/// Does a job over the store at a path, with no other beside: one that only reads over the files as they are, if their log
-/// is not long. A store that is to be refused is refused before anything of it is written, as far as `look_beside` sees it.
-fn work_alone<'a, S: RunStore + Drop, P: Opener<S>, O: Outputs>(
-    rt: &'a HostRuntime,
-    outputs: &O,
+/// The store at a path, with no other beside, for a job that was not done beside others for this reason. Where nothing is known
+/// of the store, it is only read over the files as they are, if the job only reads and their log is not long; and one that is
+/// to be refused is refused before anything of it is written, as far as `look_beside` sees it.
+fn store_alone_at<S: RunStore + Drop, P: Opener<S>>(
+    rt: &HostRuntime,
     db: &str,
     patience: Patience,
-    job: Job<'_, 'a>,
-) -> Result<Done<S, O::Out>, NotOpened>
-    ensures { IfOk result (WasDone ⟦<File as Read>⟧.remaining O.Out.contents S.StoreState P.Opener.held job.entry O.Outputs.fresh) }
+    job: Job<'_, '_>,
+    unread: Unread,
+) -> Result<S, NotOpened>
+    ensures { IfOk result (RepresentsHeld S.StoreState P.Opener.held) }
 {
-    if job.only_reads() {
-        match P::alone(rt, db, patience) {
-            Ok(store) => return Ok(done_alone::<S, P, O>(rt, outputs, store, job)),
-            Err(refused) if refused.end == OpenError::Memory => return Err(refused),
-            Err(_) => {}
+    match unread {
+        Unread::Moved => return Err(OpenError::Store.into()),
+        Unread::Refused(refused) => return Err(refused),
+        Unread::First => {}
+        Unread::Unfit => {
+            if job.only_reads() {
+                match P::alone(rt, db, patience) {
+                    Err(refused) if refused.end != OpenError::Memory => {}
+                    opened => return opened,
+                }
+            }
+            P::look_beside(rt, db)?;
         }
     }
-    P::look_beside(rt, db)?;
-    let store = store_to_change_at::<S, P>(rt, db, patience, job.cells_to_keep())?;
-    Ok(done_alone::<S, P, O>(rt, outputs, store, job))
+    store_to_change_at::<S, P>(rt, db, patience, job.cells_to_keep())
 }
 
 /// Does a job over the store at a path, which is made where there is none: one that only reads beside others, if it can be
-/// read so. `P` says what the files held when the store was opened over which it was done, whoever had made or changed them.
-pub(crate) fn work_at<'a, S: RunStore + Drop, P: Opener<S>, O: Outputs>(
-    rt: &'a HostRuntime,
+/// read so; no lock is taken then, and nothing is made or changed. Where others write meanwhile, it begins anew, as long as
+/// patience lasts. `P` says what the files held when the store was opened over which it was done, whoever had made or
+/// changed them.
+pub(crate) fn work_at<S: RunStore + Drop, P: Opener<S>, O: Outputs>(
+    rt: &HostRuntime,
     outputs: &O,
     db: &str,
-    job: Job<'_, 'a>,
+    job: Job<'_, '_>,
 ) -> Result<Done<S, O::Out>, NotOpened>
     ensures { IfOk result (WasDone ⟦<File as Read>⟧.remaining O.Out.contents S.StoreState P.Opener.held job.entry O.Outputs.fresh) }
 {
@@ -98,14 +120,27 @@ pub(crate) fn work_at<'a, S: RunStore + Drop, P: Opener<S>, O: Outputs>(
     if P::make_missing(rt, db, patience)? {
         tell_person(rt, db, "it is new");
     }
-    match work_beside::<S, P, O>(rt, outputs, db, job, patience) {
-        Ok(done) => Ok(done),
-        Err(Unread::Moved) => Err(OpenError::Store.into()),
-        Err(Unread::Refused(refused)) => Err(refused),
-        Err(Unread::First) => {
-            let store = store_to_change_at::<S, P>(rt, db, patience, job.cells_to_keep())?;
-            Ok(done_alone::<S, P, O>(rt, outputs, store, job))
+    // Why it is not done beside others.
+    let mut unread = Unread::Unfit;
+    if let Some(commands) = commands_beside(rt, db, job) {
+        'tries: for turn in 0..TRIES {
+            unread = match store_beside_at::<S, P>(rt, db) {
+                Ok((store, standing)) => {
+                    match done_beside::<S, P, O>(rt, outputs, store, standing, commands) {
+                        Ok(done) => return Ok(done),
+                        Err(moved) => moved,
+                    }
+                }
+                Err(unread) => unread,
+            };
+            match unread {
+                Unread::Moved if patience.is_left(rt) || turn < LEAST_TRIES => {}
+                // While another makes the files, or opens them, they may be so for a moment.
+                Unread::Unfit if turn == 0 => {}
+                _ => break 'tries,
+            }
         }
-        Err(Unread::Unfit) => work_alone::<S, P, O>(rt, outputs, db, patience, job),
     }
+    let store = store_alone_at::<S, P>(rt, db, patience, job, unread)?;
+    Ok(done_alone::<S, P, O>(rt, outputs, store, job))
 }

@@ -22,7 +22,7 @@ use Rattle.byte_io.specs.Imported.{IsReadOf, WereRead}
 use Rattle.file_reading.specs.Seen.{SeenReads, opened}
 use Rattle.file_reading.specs.declared.seen.SeenFile.{SeenFile}
 use Rattle.warehouse.specs.Answers.{is_refused}
-use Rattle.sessions.specs.Sessions.{AreLinesOf, AreReadAs, ArePrinted, ArePrintedInPart, IsLineOf, Prints, Took, WasCarriedOut, WasCut, WasPerformed, WasTold, answers_of, commands_of, status_after}
+use Rattle.sessions.specs.Sessions.{AreLinesOf, AreReadAs, ArePrinted, ArePrintedInPart, IsLineOf, Prints, Took, WasPerformed, WasTold, answers_of, commands_of, status_after}
 use Rattle.sessions.specs.declared.session.Session.{Session}
 
 -- ---- the status
@@ -132,8 +132,16 @@ module _ {R W S N : Type 0} (g : Ghosts S) where
             (printed_on (answers_of w.steps) (t.answer ∷ []) (contents old.out) (contents mid.out) (contents new.out) w.printed t.printed);
       }
 
+  -- what was wanted is done as far as answers could be printed: the commands of the steps that were taken are the first of its commands
+  pub record WasCut (contents : W → Option (List ℕ)) (wanted : List Command → Type 0) (old new : Session R W S N) : Type 0 where
+    pub steps : History
+    pub rest : List Command
+    pub commands : wanted (commands_of steps ++ rest)
+    pub took : Took g steps old new
+    pub printed : ArePrintedInPart (answers_of steps) (contents old.out) (contents new.out)
+
   pub so_far_cut : (contents : W → Option (List ℕ)) (list rest : List Command) (command : Command) (wanted : List Command → Type 0) {E : Type 0} (result : Result Unit E) (old mid new : Session R W S N) → mid.warehouse.limits ≡ old.warehouse.limits
-      → (w : SoFar contents list old mid) → WasTold g contents command result mid new → wanted (list ++ command ∷ rest) → WasCut g contents wanted old new
+      → (w : SoFar contents list old mid) → WasTold g contents command result mid new → wanted (list ++ command ∷ rest) → WasCut contents wanted old new
   so_far_cut contents list rest command wanted result old mid new same w t is =
       let step : Step = record { command = command; answer = t.answer } in record {
         steps = w.steps ++ step ∷ [];
@@ -143,9 +151,6 @@ module _ {R W S N : Type 0} (g : Ghosts S) where
         printed = subst (λ l. ArePrintedInPart l (contents old.out) (contents new.out)) (sym (map-append (λ (x : Step). x.answer) w.steps (step ∷ [])))
             (part_on (answers_of w.steps) (t.answer ∷ []) (contents old.out) (contents mid.out) (contents new.out) w.printed (in_part result (t.answer ∷ []) (contents mid.out) (contents new.out) t.printed));
       }
-
-  pub so_far_done : (contents : W → Option (List ℕ)) (list : List Command) (wanted : List Command → Type 0) (old new : Session R W S N) → SoFar contents list old new → wanted list → WasCarriedOut g contents wanted old new
-  so_far_done contents list wanted old new w is = record { steps = w.steps; commands = subst wanted (sym w.commands) is; took = w.took; printed = w.printed }
 
 -- ---- commands that are asked for
 

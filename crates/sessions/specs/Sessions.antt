@@ -80,24 +80,6 @@ module _ {R W S N : Type 0} (g : Ghosts S) where
     pub taken : WereTaken g old.warehouse.limits steps old.warehouse.store new.warehouse.store
     pub status : new.status ≡ status_after old.status (answers_of steps)
 
-  -- what was wanted is done: its commands are those of steps that were taken, and their answers were printed
-  pub record WasCarriedOut (contents : W → Option (List ℕ)) (wanted : List Command → Type 0) (old new : Session R W S N) : Type 0 where
-    pub steps : History
-    pub commands : wanted (commands_of steps)
-    pub took : Took steps old new
-    pub printed : ArePrinted (answers_of steps) (contents old.out) (contents new.out)
-
-  -- what was wanted is done as far as answers could be printed: the commands of the steps that were taken are the first of its commands
-  pub record WasCut (contents : W → Option (List ℕ)) (wanted : List Command → Type 0) (old new : Session R W S N) : Type 0 where
-    pub steps : History
-    pub rest : List Command
-    pub commands : wanted (commands_of steps ++ rest)
-    pub took : Took steps old new
-    pub printed : ArePrintedInPart (answers_of steps) (contents old.out) (contents new.out)
-
-  abbrev pub CarriesOut : (W → Option (List ℕ)) → (List Command → Type 0) → {E : Type 0} → Result Unit E → Session R W S N → Session R W S N → Type 0
-  CarriesOut contents wanted result old new = MatchResult result (λ done. WasCarriedOut contents wanted old new) (λ e. WasCut contents wanted old new)
-
   -- a command was answered, and the answer printed, whole or in part
   pub record WasTold (contents : W → Option (List ℕ)) (command : Command) {E : Type 0} (result : Result Unit E) (old new : Session R W S N) : Type 0 where
     pub answer : Answer

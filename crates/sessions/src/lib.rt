@@ -6,12 +6,12 @@
 mod commands;
 // What a person is told of files (specs/Remarks.antt).
 mod remarks;
-// A total is printed, and commands are run over an opened store (specs/Works.antt).
-mod running;
-// Runs commands over a store, and prints each answer (specs/Sessions.antt).
+// Runs commands over a store, and prints each answer (specs/Sessions.antt, specs/Works.antt).
 mod session;
+// The total of a file is printed (specs/Works.antt).
+mod totals;
 
 pub use commands::{WordsCommand, commands_of};
 pub use remarks::Remark;
-pub use running::{print_total, work_over};
-pub use session::Session;
+pub use session::work_over;
+pub use totals::print_total;

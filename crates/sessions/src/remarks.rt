@@ -68,7 +68,7 @@ pub(crate) fn keep_remark<'a, R: Files>(
     path: &'a str,
     command: &WordsCommand<'a>,
     answer: &Answer,
-    file: &SeenFile<'a, R>,
+    file: &SeenFile<'_, R>,
 ) {
     if let Some(finding) = finding_of(command, answer, file.beginning(), file.failed()) {
         let _kept = remarks.push(Remark { path, finding });

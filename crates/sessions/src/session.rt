@@ -7,14 +7,17 @@ ghost use Rattle.histories.specs.declared.answers.Answer as given;
 ghost use Rattle.requests.specs.Plain.{plain_request, plain_selection};
 ghost use Rattle.requests.specs.declared.queries.Query.TheVariants.{Csv};
 ghost use Rattle.warehouse.specs.Answered.{IsGivenFor};
-ghost use Rattle.sessions.specs.Sessions.{Prints, Wants, WasPerformed, CarriesOut, WasTold, path_in, status_after};
+ghost use Rattle.sessions.specs.Sessions.{Prints, Wants, WasPerformed, WasTold, path_in, status_after};
+ghost use Rattle.sessions.specs.Works.{WerePrinted};
+ghost use Rattle.std.specs.Result.{result_and};
+ghost use Rattle.warehouse.specs.Taken.{CameTo};
 
 use crate::commands::WordsCommand;
 use crate::remarks::{Remark, keep_remark};
 use byte_io::write_text;
 use cost_exports::{CellSums, Unwritten, write_csv};
 use file_reading::SeenFile;
-use histories::{Answer, Refusal};
+use histories::{Answer, Limits, Refusal};
 use requests::{Command, Query, Selection};
 use run_stores::RunStore;
 use shared_texts::TextSink;
@@ -36,7 +39,7 @@ fn path_of<'a>(command: &WordsCommand<'a>) -> &'a str
 
 /// A warehouse, where its answers are printed, and the status that those so far come to.
 #[derive(Drop)]
-pub struct Session<'a, R, W: Drop, S: RunStore> {
+struct Session<'a, R, W: Drop, S: RunStore> {
     rt: &'a R,
     out: W,
     warehouse: Warehouse<S>,
@@ -60,7 +63,7 @@ impl<'a, R: Files + AllocGlobal, W: Write + Drop, S: RunStore> TextSink for Sess
 
 impl<'a, R: Files + AllocGlobal, W: Write + Drop, S: RunStore> Session<'a, R, W, S> {
     /// No command was run yet.
-    pub fn new(rt: &'a R, out: W, warehouse: Warehouse<S>) -> Session<'a, R, W, S>
+    fn new(rt: &'a R, out: W, warehouse: Warehouse<S>) -> Session<'a, R, W, S>
         ensures warehouse { result.warehouse ≡ warehouse }
         ensures status { result.status ≡ 0 }
         ensures out { result.out ≡ out }
@@ -73,11 +76,11 @@ impl<'a, R: Files + AllocGlobal, W: Write + Drop, S: RunStore> Session<'a, R, W,
         }
     }
 
-    /// The status of what was answered, where it was printed, and the warehouse.
-    pub fn finish(self) -> (u8, W, Warehouse<S>)
-        ensures status { result.0 ≡ self.entry.status }
+    /// The status of what was answered, or why that was not printed; where it was printed, and the store.
+    fn finish(self, ended: io::Result<()>) -> (io::Result<u8>, W, S)
+        ensures came_to { result.0 ≡ result_and ended (Ok self.entry.status) }
         ensures out { result.1 ≡ self.entry.out }
-        ensures warehouse { result.2 ≡ self.entry.warehouse }
+        ensures store { result.2 ≡ self.entry.warehouse.store }
     {
         let Session {
             rt: _,
@@ -85,7 +88,7 @@ impl<'a, R: Files + AllocGlobal, W: Write + Drop, S: RunStore> Session<'a, R, W,
             warehouse,
             status,
         } = self;
-        (status, out, warehouse)
+        (ended.and(Ok(status)), out, warehouse.into_store())
     }
 
     /// Prints an answer: a text from where it lies, since it may be long. Where there is no memory for a line,
@@ -145,10 +148,10 @@ impl<'a, R: Files + AllocGlobal, W: Write + Drop, S: RunStore> Session<'a, R, W,
     }
 
     /// Does a command, and prints its answer. What was found of its file is kept beside it.
-    fn perform(
+    fn perform<'c>(
         &mut self,
-        command: &WordsCommand<'a>,
-        remarks: &mut Vec<Remark<'a>>,
+        command: &WordsCommand<'c>,
+        remarks: &mut Vec<Remark<'c>>,
     ) -> io::Result<()>
         ensures limits { self.new.warehouse.limits ≡ self.old.warehouse.limits }
         ensures answered { IsFaithful S.StoreState self.new.warehouse.store
@@ -164,21 +167,26 @@ impl<'a, R: Files + AllocGlobal, W: Write + Drop, S: RunStore> Session<'a, R, W,
         keep_remark(remarks, path, command, &answer, &source);
         self.tell(answer)
     }
+}
 
-    /// Does commands, one after another, and prints their answers. It stops where printing fails. What was found of their
-    /// files is kept beside them.
-    pub fn run(
-        &mut self,
-        commands: &[WordsCommand<'a>],
-        remarks: &mut Vec<Remark<'a>>,
-    ) -> io::Result<()>
-        ensures limits { self.new.warehouse.limits ≡ self.old.warehouse.limits }
-        ensures done { IsFaithful S.StoreState self.new.warehouse.store
-            → CarriesOut S.StoreState W.contents (Wants R.File.remaining commands.now) result self.old self.new }
-    {
-        for command in commands {
-            self.perform(command, remarks)?;
+/// Does commands over an opened store, one after another, each with its answer printed. It stops where printing fails. It hands
+/// back the status that the answers come to, or why printing failed; where they were printed, and the store. What was found of
+/// their files is kept beside them.
+pub fn work_over<'a, R: Files + AllocGlobal, W: Write + Drop, S: RunStore>(
+    rt: &R,
+    out: W,
+    store: S,
+    commands: &[WordsCommand<'a>],
+    remarks: &mut Vec<Remark<'a>>,
+) -> (io::Result<u8>, W, S)
+    ensures { IsFaithful S.StoreState result.2
+        → CameTo S.StoreState (λ _ steps. WerePrinted W.contents (Wants R.File.remaining commands.now) result.0 out result.1 steps) store result.2 }
+{
+    let mut session = Session::new(rt, out, Warehouse::new(store, Limits::standard()));
+    for command in commands {
+        if let Err(error) = session.perform(command, remarks) {
+            return session.finish(Err(error));
         }
-        Ok(())
     }
+    session.finish(Ok(()))
 }

@@ -4,12 +4,12 @@ use Rattle.byte_io.specs.Imported.{WereRead}
 use Rattle.histories.specs.History.{Command}
 use Rattle.requests.specs.Plain.{plain_request}
 use Rattle.sessions.proofs.SessionLemmas.{Fits, SoFar}
-use Rattle.sessions.proofs.session.Session.run.Given as goal
+use Rattle.sessions.proofs.session.work_over.Given as goal
 
 -- the commands so far were done, and the others are to come
 abbrev pub invariant-loop-command : goal.invariant-loop-command
 invariant-loop-command g l = record {
-  limits : l.self.warehouse.limits ≡ l.fn.self.warehouse.limits;
-  so_far : IsFaithful g.S.StoreState l.self.warehouse.store
-      → (list : List Command) × Fits (WereRead g.R.File.Read.remaining) plain_request l.commands list l.command-index × SoFar g.S.StoreState g.W.Write.contents list l.fn.self l.self;
+  limits : l.session.warehouse.limits ≡ l.initial.session.warehouse.limits;
+  so_far : IsFaithful g.S.StoreState l.session.warehouse.store
+      → (list : List Command) × Fits (WereRead g.R.File.Read.remaining) plain_request l.commands list l.command-index × SoFar g.S.StoreState g.W.Write.contents list l.initial.session l.session;
 }
