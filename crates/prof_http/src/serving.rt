@@ -30,47 +30,31 @@ pub struct Service {
     pub log: bool,
 }
 
-/// Ends the connection to a client that was served. One whose request was refused may still send a body that nobody
-/// read; one that was not answered has nothing to see. No guarantee: of the network the checker knows nothing.
-fn end_client<'a>(
+/// Ends the connection to a client that was served, and logs its request where that is wanted. One whose request was
+/// refused may still send a body that nobody read; one that was not answered has nothing to see. No guarantee: of the
+/// network, and of what is printed, the checker knows nothing.
+fn end_served<'a>(
+    rt: &HostRuntime,
     clients: &mut Clients<'a>,
     room: &mut Room,
     client: Client<'a>,
     exchange: Exchange,
-) -> io::Result<()> {
-    match exchange {
+    is_logged: bool,
+) {
+    if is_logged {
+        // A log that cannot be written stops no service.
+        let _logged = log(rt, client.1, client.0.first_line(&room.head), exchange);
+    }
+    // Nor does a connection that cannot be ended.
+    let _ended = match exchange {
         Exchange::Sent(200 | 201) => client.0.close(&mut room.head),
         Exchange::Sent(_) => clients.end(client),
         Exchange::ReadFault | Exchange::WriteFault(_) => Ok(()),
-    }
-}
-
-/// Serves one client, and ends the connection. One that went away is one of those that were served.
-fn serve_client<'a, S: RunStore>(
-    rt: &'a HostRuntime,
-    router: &Router<Place>,
-    warehouse: &mut Warehouse<S>,
-    room: &mut Room,
-    clients: &mut Clients<'a>,
-    client: Option<Client<'a>>,
-    is_logged: bool,
-)
-    requires router { router.now ≡ spec.routes }
-    ensures limits { warehouse.new.limits ≡ warehouse.old.limits }
-    ensures served { Serves S.StoreState 1 warehouse.old.limits warehouse.old.store warehouse.new.store }
-{
-    let Some((connection, address)) = client else {
-        return;
     };
-    let (exchange, connection) = answer(rt.alloc(), router, room, connection, warehouse);
-    if is_logged {
-        // A log that cannot be written stops no service.
-        let _logged = log(rt, address, connection.first_line(&room.head), exchange);
-    }
-    let _ended = end_client(clients, room, (connection, address), exchange);
 }
 
-/// Answers so many clients, one at a time. False where one could not be accepted.
+/// Answers so many clients, one at a time, and ends the connection of each. One that went away is one of them. False where
+/// one could not be accepted.
 pub fn serve_on<'a, S: RunStore>(
     rt: &'a HostRuntime,
     clients: &mut Clients<'a>,
@@ -88,7 +72,12 @@ pub fn serve_on<'a, S: RunStore>(
         let Ok(client) = clients.next(&mut room.head, &mut room.fields) else {
             return false;
         };
-        serve_client(rt, router, warehouse, &mut room, clients, client, is_logged);
+        let Some((connection, address)) = client else {
+            continue;
+        };
+        let (exchange, connection) = answer(rt.alloc(), router, &mut room, connection, warehouse);
+        let client = (connection, address);
+        end_served(rt, clients, &mut room, client, exchange, is_logged);
     }
     let _ended = clients.finish(&mut room.head, &mut room.fields);
     true
