@@ -14,12 +14,11 @@ ghost use Rattle.http_exchange.specs.Requests.{request_of};
 ghost use Rattle.http_exchange.specs.Routes as spec;
 ghost use Rattle.http_exchange.specs.declared.failings.Failing as check;
 ghost use Rattle.prof_http.specs.Exchanges.{IsReplied, WasExchanged};
-ghost use Rattle.prof_http.specs.Performed.{IsDoneOver, IsFulfilled};
+ghost use Rattle.prof_http.specs.Performed.{IsFulfilled};
 ghost use Rattle.prof_http.specs.Replies.{Says};
 
 use crate::replies::{Exchange, Reply, send_failing, send_reply};
 use crate::rooms::Room;
-use histories::Answer;
 use http_exchange::{Body, Failing, HeadEnd, Place, Stream, body_comes, read_head, read_request};
 use httparse::spans::{HeaderSpan, RequestSpans};
 use matchit::Router;
@@ -27,23 +26,6 @@ use requests::{Command, Query, Selection};
 use run_stores::RunStore;
 use std::alloc::Global;
 use warehouse::Warehouse;
-
-/// Does what is asked over a body, and hands the stream back.
-fn perform<T: Stream + Drop, S: RunStore>(
-    alloc: Global,
-    warehouse: &mut Warehouse<S>,
-    command: &Command<(), &[u8]>,
-    body: Body<'_, T>,
-) -> (Answer, T)
-    ensures limits { warehouse.new.limits ≡ warehouse.old.limits }
-    ensures done { IsDoneOver S.StoreState T.reads warehouse.old.limits (command_read (plain_command command.now)) body.entry
-        result.0 result.1 warehouse.old.store warehouse.new.store }
-{
-    let mut body = body;
-    let answer = warehouse.perform(alloc, command, &mut body);
-    let Body { stream, .. } = body;
-    (answer, stream)
-}
 
 /// Sums up what places cost, for a text of CSV, and hands the stream back.
 fn sum_up<T: Stream + Drop, S: RunStore>(
@@ -63,7 +45,8 @@ fn sum_up<T: Stream + Drop, S: RunStore>(
     }
 }
 
-/// Replies to a request that passed its checks: what is asked is done over a body. Hands the stream back.
+/// Replies to a request that passed its checks: what it asks for is done over its body, which no question reads. Hands the
+/// stream back.
 fn fulfil<T: Stream + Drop, S: RunStore>(
     alloc: Global,
     warehouse: &mut Warehouse<S>,
@@ -74,11 +57,19 @@ fn fulfil<T: Stream + Drop, S: RunStore>(
     ensures done { IsFulfilled S.StoreState T.reads warehouse.old.limits (command_read (plain_command command.now)) body.entry
         result.0 result.1 warehouse.old.store warehouse.new.store }
 {
-    if let Command::Ask(Query::Csv(selection)) = command {
-        return sum_up(alloc, warehouse, selection, body);
+    match command {
+        Command::Ask(Query::Csv(selection)) => sum_up(alloc, warehouse, selection, body),
+        Command::Ask(query) => {
+            let Body { stream, .. } = body;
+            (Reply::Answered(warehouse.ask(alloc, query)), stream)
+        }
+        _ => {
+            let mut body = body;
+            let answer = warehouse.perform(alloc, command, &mut body);
+            let Body { stream, .. } = body;
+            (Reply::Answered(answer), stream)
+        }
     }
-    let (answer, stream) = perform(alloc, warehouse, command, body);
-    (Reply::Answered(answer), stream)
 }
 
 /// Replies to the request whose head `read_head` found in these bytes: its command is done, over the body

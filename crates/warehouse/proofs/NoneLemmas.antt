@@ -1,5 +1,5 @@
 -- Commands that read nothing.
-use Rattle.std.proofs.Common.{◌≡◌, [], refl}
+use Rattle.std.proofs.Common.{[], refl}
 use Rattle.run_stores.specs.declared.states.StoreState.{Ghosts}
 use Rattle.byte_io.specs.Outcomes.{Outcome}
 use Rattle.histories.specs.Requests.{command_read}

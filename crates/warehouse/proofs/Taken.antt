@@ -1,5 +1,4 @@
 -- Steps that lead from store to store are taken.
-use Rattle.std.proofs.Common.{refl}
 use Rattle.run_stores.specs.declared.states.StoreState.{Ghosts}
 use Rattle.run_stores.specs.Calls.{IsFaithful}
 use Rattle.histories.specs.History.{History}

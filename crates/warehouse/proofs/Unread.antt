@@ -7,8 +7,6 @@ use Rattle.byte_io.specs.Outcomes.{Outcome}
 use Rattle.histories.specs.History.{History, Command}
 use Rattle.histories.specs.Legal.{IsInForm, IsLegal, expected_answer, once_read}
 use Rattle.histories.specs.declared.answers.Answer.{Answer}
-use Rattle.histories.specs.declared.answers.Answer.TheVariants as answers
-use Rattle.histories.specs.declared.answers.Refusal.TheVariants as reasons
 use Rattle.histories.specs.declared.limits.Limits.{Limits}
 use Rattle.histories.proofs.ReadsExpected.{failed_expected, long_expected}
 use Rattle.histories.proofs.Held.{IsStill}
