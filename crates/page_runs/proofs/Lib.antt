@@ -3,6 +3,7 @@ mod Changes
 mod Begins
 mod Concluding
 mod Keeping
+mod RunLines
 pub mod NumberOfName
 pub mod PartSums
 pub mod States

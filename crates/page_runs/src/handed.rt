@@ -1,28 +1,18 @@
-// The cells, the calls and the stacks of a run, handed on: cells and calls with the numbers of their names.
-ghost use Rattle.std.specs.Prelude.{◌≡◌, ◌∷◌, List, fold, map, IfOk};
+// What takes the cells, the calls and the stacks of a run from its rows: cells and calls with the numbers of their names.
+ghost use Rattle.std.specs.Prelude.{◌≡◌, ◌∷◌, List, map, IfOk};
 ghost use Rattle.sqlite_record.specs.Fields.{fields_left};
-ghost use Rattle.page_files.specs.Files.{IsFaithful, OnlyReads};
-ghost use Rattle.plain_tables.specs.RunRows.{cells_in, calls_in, stacks_in};
-ghost use Rattle.plain_tables.specs.Tables.{Tables, StoredCell as Cell, StoredCall as Call, StoredStack as Stack};
-ghost use Rattle.run_stores.specs.Book.{stacks_held};
-ghost use Rattle.run_stores.specs.Walks.{CallsFoldTo, CellsFoldTo, cell_numbers};
+ghost use Rattle.plain_tables.specs.Tables.{StoredCell as Cell};
+ghost use Rattle.run_stores.specs.Walks.{CellsFoldTo, cell_numbers};
 ghost use Rattle.store_schema.specs.Lines.{call_row, cell_row, held_stack};
-ghost use Rattle.store_schema.specs.Schema.{arc_at, stack_at, thread_cell_at};
 ghost use Rattle.store_schema.specs.Tables.{number, cell_columns, arc_columns, stack_columns};
-ghost use Rattle.page_runs.specs.Kept.{HasGathered};
-ghost use Rattle.page_runs.specs.PartSums.{SumTo};
-ghost use Rattle.page_lists.specs.Shown.{ShowsLines};
 
-use crate::hints::Hints;
-use crate::kept::{Gathered, KeptCells};
-use crate::run_rows::{Added, LineSink, RunTable, each_line};
+use crate::kept::Gathered;
+use crate::run_rows::{Added, LineSink};
 use cost_rows::CellRow;
 use held_lines::{CallLines, CellLines, StackLines};
-use page_files::PageFile;
 use page_lists::{copied_in, end_of, number_in, whole_in};
 use plain_tables::StoreError;
 use run_stores::{CallSink, CellSink, StackRowSink};
-use sqlite_disk::Disk;
 use sqlite_record::fields::Fields;
 use std::alloc::Global;
 use store_schema::{HeldStack, OutOfForm, StoredCall, StoredCell};
@@ -91,9 +81,9 @@ fn read_stack(alloc: Global, run: u32, mut fields: Fields<'_>) -> Result<HeldSta
 
 /// Takes the cells of a run, and gathers them on the way.
 #[derive(Drop)]
-struct GatheredLines<T> {
-    lines: CellLines<T>,
-    gathered: Gathered,
+pub(crate) struct GatheredLines<T> {
+    pub lines: CellLines<T>,
+    pub gathered: Gathered,
 }
 
 impl<T: CellSink + Drop> LineSink for GatheredLines<T> {
@@ -158,9 +148,9 @@ impl<T: CallSink + Drop> LineSink for CallLines<T> {
 
 /// Takes the stacks of a run, each copied.
 #[derive(Drop)]
-struct CopiedStacks<T> {
-    alloc: Global,
-    lines: StackLines<T>,
+pub(crate) struct CopiedStacks<T> {
+    pub alloc: Global,
+    pub lines: StackLines<T>,
 }
 
 impl<T: StackRowSink + Drop> LineSink for CopiedStacks<T> {
@@ -207,67 +197,4 @@ pub(crate) fn each_kept<T: CellSink + Drop>(
         sink.take(cell)?;
     }
     Ok(sink)
-}
-
-/// Hands on the cells of a run, with so many events, as `RunStore::each_cell`, and those that were gathered to be kept.
-pub(crate) fn each_cell<D: Disk, T: CellSink + Drop>(
-    file: &mut PageFile<D>,
-    alloc: Global,
-    table: RunTable,
-    hints: &mut Hints,
-    kept: &KeptCells,
-    events: usize,
-    sink: T,
-) -> Result<(T, Gathered), StoreError>
-    ensures told { IsFaithful file.new → (t : Tables) → ShowsLines file.old table.root thread_cell_at cell_columns t.cells
-        → IfOk result (λ r. CellsFoldTo events T.step (T.meaning sink) (T.meaning r.0) (cells_in table.run t)
-        × SumTo (λ (c : Cell). c.event) (λ (c : Cell). c.cost) (cells_in table.run t) table.sums.items × HasGathered (cells_in table.run t) r.1) }
-    ensures reads { OnlyReads file.old file.new }
-{
-    let lines = GatheredLines {
-        lines: CellLines::new(events, sink),
-        gathered: kept.begin(),
-    };
-    let taken = each_line(file, alloc, table, hints, lines)?;
-    Ok((taken.lines.finish(), taken.gathered))
-}
-
-/// Hands on the calls of a run, row by row, as `RunStore::each_call`.
-pub(crate) fn each_call<D: Disk, T: CallSink + Drop>(
-    file: &mut PageFile<D>,
-    alloc: Global,
-    table: RunTable,
-    hints: &mut Hints,
-    events: usize,
-    sink: T,
-) -> Result<T, StoreError>
-    ensures told { IsFaithful file.new → (t : Tables) → ShowsLines file.old table.root arc_at arc_columns t.calls
-        → IfOk result (λ taken. CallsFoldTo events T.step (T.meaning sink) (T.meaning taken) (calls_in table.run t)
-        × SumTo (λ (a : Call). a.part) (λ (a : Call). a.sum) (calls_in table.run t) table.sums.items) }
-    ensures reads { OnlyReads file.old file.new }
-{
-    let lines = CallLines::new(alloc, events, sink);
-    let lines = each_line(file, alloc, table, hints, lines)?;
-    lines.finish()
-}
-
-/// Hands on the stacks of a run, as `RunStore::each_stack`.
-pub(crate) fn each_stack<D: Disk, T: StackRowSink + Drop>(
-    file: &mut PageFile<D>,
-    alloc: Global,
-    table: RunTable,
-    hints: &mut Hints,
-    sink: T,
-) -> Result<T, StoreError>
-    ensures told { IsFaithful file.new → (t : Tables) → ShowsLines file.old table.root stack_at stack_columns t.stacks
-        → IfOk result (λ taken. (T.meaning taken ≡ fold T.step (T.meaning sink) (stacks_held table.run t))
-        × SumTo (λ _. 0) (λ (s : Stack). s.count) (stacks_in table.run t) table.sums.items) }
-    ensures reads { OnlyReads file.old file.new }
-{
-    let lines = CopiedStacks {
-        alloc,
-        lines: StackLines::new(sink),
-    };
-    let lines = each_line(file, alloc, table, hints, lines)?;
-    Ok(lines.lines.finish())
 }

@@ -17,14 +17,14 @@ ghost use Rattle.page_runs.specs.States.{IsFaithful, ReadsImage, RepresentsImage
 ghost use Rattle.run_stores.specs.Calls.{Asks};
 ghost use Rattle.std.specs.Result.{is_ok};
 
-use crate::handed::{each_call, each_cell, each_kept, each_stack};
+use crate::handed::{CopiedStacks, GatheredLines, each_kept};
 use crate::hints::RunHints;
 use crate::kept::KeptCells;
-use crate::run_rows::RunTable;
+use crate::run_rows::{RunTable, each_line};
 use cg_formulas::FileHead;
 use cg_text::ListVec;
 use cost_rows::FileTotals;
-use held_lines::{HeldNames, is_name};
+use held_lines::{CallLines, CellLines, HeldNames, StackLines, is_name};
 use page_files::PageFile;
 use page_lists::{
     head_of, holds_names, names_among, names_under, open_file, open_store, read_lists,
@@ -383,18 +383,20 @@ impl<D: Disk> RunStore for PageRuns<D> {
             return each_kept(cells, events, sink);
         }
         let table = self.cells_of(run)?;
-        let (taken, gathered) = each_cell(
+        let sink = GatheredLines {
+            lines: CellLines::new(events, sink),
+            gathered: self.kept_cells.begin(),
+        };
+        let taken = each_line(
             &mut self.file,
             self.alloc,
             table,
             &mut self.hints.cells,
-            &self.kept_cells,
-            events,
             sink,
         )?;
         self.if_usable()?;
-        self.kept_cells.keep(run, gathered);
-        Ok(taken)
+        self.kept_cells.keep(run, taken.gathered);
+        Ok(taken.lines.finish())
     }
 
     fn each_call<T: CallSink + Drop>(
@@ -405,21 +407,19 @@ impl<D: Disk> RunStore for PageRuns<D> {
         sink: T,
     ) -> Result<T, StoreError> {
         let table = self.calls_of(run)?;
-        let taken = each_call(
-            &mut self.file,
-            alloc,
-            table,
-            &mut self.hints.calls,
-            events,
-            sink,
-        )?;
+        let sink = CallLines::new(alloc, events, sink);
+        let taken = each_line(&mut self.file, alloc, table, &mut self.hints.calls, sink)?;
         self.if_usable()?;
-        Ok(taken)
+        taken.finish()
     }
 
     fn each_stack<T: StackRowSink + Drop>(&mut self, run: u32, sink: T) -> Result<T, StoreError> {
         let table = self.stacks_of(run)?;
-        let taken = each_stack(
+        let sink = CopiedStacks {
+            alloc: self.alloc,
+            lines: StackLines::new(sink),
+        };
+        let taken = each_line(
             &mut self.file,
             self.alloc,
             table,
@@ -427,7 +427,7 @@ impl<D: Disk> RunStore for PageRuns<D> {
             sink,
         )?;
         self.if_usable()?;
-        Ok(taken)
+        Ok(taken.lines.finish())
     }
 
     fn put_run(

@@ -1,5 +1,5 @@
 -- Requests that were served, one after another.
-use Rattle.std.proofs.Common.{inl, inr, ℕ, ◌+◌, ◌≤◌, List, [], ◌∷◌, ◌++◌, length, Result, Ok, Err, refl, sym, subst, arith}
+use Rattle.std.proofs.Common.{◌≡◌, inl, inr, ℕ, ◌+◌, ◌≤◌, List, [], ◌∷◌, ◌++◌, length, Result, Ok, Err, refl, sym, subst, arith}
 use Rattle.std.proofs.lemmas.List.{length-append}
 use Rattle.run_stores.specs.declared.states.StoreState.{Ghosts}
 use Rattle.run_stores.specs.Calls.{IsFaithful}
@@ -8,14 +8,16 @@ use Rattle.byte_io.specs.Reads.{Reads}
 use Rattle.histories.specs.declared.answers.Answer.{Answer}
 use Rattle.histories.specs.declared.limits.Limits.{Limits}
 use Rattle.histories.specs.Answered.{Links}
+use Rattle.histories.specs.Standard.{IsStandard}
 use Rattle.histories.proofs.Links.{links_append, links_clean}
 use Rattle.http_exchange.specs.declared.failings.Failing.{Failing}
 use Rattle.http_exchange.specs.declared.checks.Request.{Request}
 use Rattle.http_exchange.specs.Streams.{Written, Writes}
 use Rattle.prof_http.specs.Exchanges.{IsReplied, WasExchanged}
 use Rattle.prof_http.specs.declared.replies.Exchange.{Exchange}
+use Rattle.warehouse.specs.Taken.{CameTo}
 use Rattle.warehouse.proofs.Taken.{taken_by, taken_clean}
-use Rattle.prof_http.specs.Served.{HasServed, WasExchangedWithAny, WereExchanged, steps_of, steps_of_exchange, steps_of_reply}
+use Rattle.prof_http.specs.Served.{AreOfRequests, HasServed, WasExchangedWithAny, WereExchanged, steps_of, steps_of_exchange, steps_of_reply}
 
 -- ---- any bytes
 
@@ -126,3 +128,15 @@ module _ {S : Type 0} (g : Ghosts S) (limits : Limits) where
   -- the disk was faithful before, too
   pub served_clean : (requests : ℕ) (old new : S) → HasServed g limits requests old new → IsFaithful g new → IsFaithful g old
   served_clean requests old new served clean = taken_clean g limits served.steps old new served.taken clean
+
+-- what was served under standard limits between two stores is what the one came to
+pub came_served : {S : Type 0} (g : Ghosts S) (limits : Limits) (requests : ℕ) (store old new end : S) → IsStandard limits → old ≡ store → end ≡ new → HasServed g limits requests old new
+    → CameTo g (AreOfRequests g requests store end) store end
+came_served g limits requests store old new end standard first last served =
+    let here : HasServed g limits requests store end = subst (λ s. HasServed g limits requests s end) first (subst (HasServed g limits requests old) (sym last) served) in record {
+      limits = limits;
+      standard = standard;
+      steps = here.steps;
+      taken = here.taken;
+      says = here.of_requests;
+    }

@@ -20,13 +20,7 @@ pub record HandsOn {T : Type 0} (reads : T → Outcome → T → Type 0) (body :
   pub came : Reads reads body.stream stream_reads to
   pub made : IsBodyOf body.left body.held.now stream_reads outcomes
 
--- a command was done over a body, and answered; where the disk returned what was written, the answer is one of the history
-pub record IsDoneOver {S T : Type 0} (g : Ghosts S) (reads : T → Outcome → T → Type 0) (limits : Limits) (command : List Outcome → Command) (body : Body T) (answer : Answer) (to : T) (old new : S) : Type 0 where
-  pub outcomes : List Outcome
-  pub handed : HandsOn reads body outcomes to
-  pub answers : IsFaithful g new → Answers g limits (command outcomes) answer old new
-
--- a command was done over a body, and replied to: what the reply says is such an answer
+-- a command was done over a body, and replied to: what the reply says is its answer; where the disk returned what was written, that is one of the history
 pub record IsFulfilled {S T : Type 0} (g : Ghosts S) (reads : T → Outcome → T → Type 0) (limits : Limits) (command : List Outcome → Command) (body : Body T) (reply : Reply) (to : T) (old new : S) : Type 0 where
   pub outcomes : List Outcome
   pub handed : HandsOn reads body outcomes to

@@ -13,39 +13,19 @@ ghost use Rattle.http_exchange.specs.Heads.{IsHeadAt};
 ghost use Rattle.http_exchange.specs.Requests.{request_of};
 ghost use Rattle.http_exchange.specs.Routes as spec;
 ghost use Rattle.http_exchange.specs.declared.failings.Failing as check;
-ghost use Rattle.prof_http.specs.Exchanges.{IsReplied, IsResponded, WasExchanged};
-ghost use Rattle.prof_http.specs.Performed.{IsDoneOver, IsFulfilled};
+ghost use Rattle.prof_http.specs.Exchanges.{IsReplied, WasExchanged};
+ghost use Rattle.prof_http.specs.Performed.{IsFulfilled};
 ghost use Rattle.prof_http.specs.Replies.{Says};
 
 use crate::replies::{Exchange, Reply, send_failing, send_reply};
 use crate::rooms::Room;
-use histories::Answer;
-use http_exchange::{
-    Body, Failing, HeadEnd, Place, RESPONSE_ROOM, Stream, body_comes, read_head, read_request,
-};
+use http_exchange::{Body, Failing, HeadEnd, Place, Stream, body_comes, read_head, read_request};
 use httparse::spans::{HeaderSpan, RequestSpans};
 use matchit::Router;
 use requests::{Command, Query, Selection};
 use run_stores::RunStore;
 use std::alloc::Global;
 use warehouse::Warehouse;
-
-/// Does what is asked over a body, and hands the stream back.
-fn perform<T: Stream + Drop, S: RunStore>(
-    alloc: Global,
-    warehouse: &mut Warehouse<S>,
-    command: &Command<(), &[u8]>,
-    body: Body<'_, T>,
-) -> (Answer, T)
-    ensures limits { warehouse.new.limits ≡ warehouse.old.limits }
-    ensures done { IsDoneOver S.StoreState T.reads warehouse.old.limits (command_read (plain_command command.now)) body.entry
-        result.0 result.1 warehouse.old.store warehouse.new.store }
-{
-    let mut body = body;
-    let answer = warehouse.perform(alloc, command, &mut body);
-    let Body { stream, .. } = body;
-    (answer, stream)
-}
 
 /// Sums up what places cost, for a text of CSV, and hands the stream back.
 fn sum_up<T: Stream + Drop, S: RunStore>(
@@ -65,7 +45,8 @@ fn sum_up<T: Stream + Drop, S: RunStore>(
     }
 }
 
-/// Replies to a request that passed its checks: what is asked is done over a body. Hands the stream back.
+/// Replies to a request that passed its checks: what it asks for is done over its body, which no question reads. Hands the
+/// stream back.
 fn fulfil<T: Stream + Drop, S: RunStore>(
     alloc: Global,
     warehouse: &mut Warehouse<S>,
@@ -76,11 +57,19 @@ fn fulfil<T: Stream + Drop, S: RunStore>(
     ensures done { IsFulfilled S.StoreState T.reads warehouse.old.limits (command_read (plain_command command.now)) body.entry
         result.0 result.1 warehouse.old.store warehouse.new.store }
 {
-    if let Command::Ask(Query::Csv(selection)) = command {
-        return sum_up(alloc, warehouse, selection, body);
+    match command {
+        Command::Ask(Query::Csv(selection)) => sum_up(alloc, warehouse, selection, body),
+        Command::Ask(query) => {
+            let Body { stream, .. } = body;
+            (Reply::Answered(warehouse.ask(alloc, query)), stream)
+        }
+        _ => {
+            let mut body = body;
+            let answer = warehouse.perform(alloc, command, &mut body);
+            let Body { stream, .. } = body;
+            (Reply::Answered(answer), stream)
+        }
     }
-    let (answer, stream) = perform(alloc, warehouse, command, body);
-    (Reply::Answered(answer), stream)
 }
 
 /// Replies to the request whose head `read_head` found in these bytes: its command is done, over the body
@@ -119,29 +108,6 @@ fn reply_to<T: Stream + Drop, S: RunStore>(
     }
 }
 
-/// Serves the request whose head `read_head` found in these bytes, and hands the stream back.
-fn serve<T: Stream + Drop, S: RunStore>(
-    alloc: Global,
-    router: &Router<Place>,
-    warehouse: &mut Warehouse<S>,
-    bytes: &[u8],
-    fields: &[HeaderSpan],
-    spans: RequestSpans,
-    room: &mut [u8; RESPONSE_ROOM],
-    stream: T,
-) -> (Exchange, T)
-    requires router { router.now ≡ spec.routes }
-    requires within { IsRequestWithin bytes.now fields.now spans }
-    ensures limits { warehouse.new.limits ≡ warehouse.old.limits }
-    ensures responded { (head : RequestHead) → IsHeadAt bytes.now fields.now spans head
-        → IsResponded S.StoreState warehouse.old.limits T.reads T.writes T.hears (request_of warehouse.old.limits.bytes head)
-        (drop spans.len bytes.now) result.0 stream result.1 warehouse.old.store warehouse.new.store }
-{
-    let most = warehouse.most();
-    let (reply, stream) = reply_to(alloc, router, warehouse, bytes, fields, spans, stream);
-    send_reply(alloc, most, stream, room, &reply)
-}
-
 /// Reads a request from a stream, does its command over the warehouse, and sends the response; hands the
 /// stream back. The head of a request and that of its response stand in `room`, whatever that held before, so they
 /// take no memory; the body of an import is handed to the warehouse as it is read. `router` is made by
@@ -162,16 +128,11 @@ pub fn answer<T: Stream + Drop, S: RunStore>(
     match read_head(&mut stream, &mut room.head, &mut room.fields) {
         Ok((spans, filled)) => {
             stream.head_came();
-            serve(
-                alloc,
-                router,
-                warehouse,
-                &room.head[..filled],
-                &room.fields,
-                spans,
-                &mut room.response,
-                stream,
-            )
+            let most = warehouse.most();
+            let head = &room.head[..filled];
+            let fields = &room.fields;
+            let (reply, stream) = reply_to(alloc, router, warehouse, head, fields, spans, stream);
+            send_reply(alloc, most, stream, &mut room.response, &reply)
         }
         Err(HeadEnd::Bad) => {
             let exchange = send_failing(&mut stream, &mut room.response, Failing::BadRequest);

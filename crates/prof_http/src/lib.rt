@@ -19,4 +19,4 @@ pub use exchange::answer;
 pub use http_exchange::{Stream, StreamFault, routes};
 pub use replies::Exchange;
 pub use rooms::Room;
-pub use serving::{Service, serve, serve_on, serve_over};
+pub use serving::{Service, serve_on, serve_over};

@@ -30,47 +30,31 @@ pub struct Service {
     pub log: bool,
 }
 
-/// Ends the connection to a client that was served. One whose request was refused may still send a body that nobody
-/// read; one that was not answered has nothing to see. No guarantee: of the network the checker knows nothing.
-fn end_client<'a>(
+/// Ends the connection to a client that was served, and logs its request where that is wanted. One whose request was
+/// refused may still send a body that nobody read; one that was not answered has nothing to see. No guarantee: of the
+/// network, and of what is printed, the checker knows nothing.
+fn end_served<'a>(
+    rt: &HostRuntime,
     clients: &mut Clients<'a>,
     room: &mut Room,
     client: Client<'a>,
     exchange: Exchange,
-) -> io::Result<()> {
-    match exchange {
+    is_logged: bool,
+) {
+    if is_logged {
+        // A log that cannot be written stops no service.
+        let _logged = log(rt, client.1, client.0.first_line(&room.head), exchange);
+    }
+    // Nor does a connection that cannot be ended.
+    let _ended = match exchange {
         Exchange::Sent(200 | 201) => client.0.close(&mut room.head),
         Exchange::Sent(_) => clients.end(client),
         Exchange::ReadFault | Exchange::WriteFault(_) => Ok(()),
-    }
-}
-
-/// Serves one client, and ends the connection. One that went away is one of those that were served.
-fn serve_client<'a, S: RunStore>(
-    rt: &'a HostRuntime,
-    router: &Router<Place>,
-    warehouse: &mut Warehouse<S>,
-    room: &mut Room,
-    clients: &mut Clients<'a>,
-    client: Option<Client<'a>>,
-    is_logged: bool,
-)
-    requires router { router.now ≡ spec.routes }
-    ensures limits { warehouse.new.limits ≡ warehouse.old.limits }
-    ensures served { Serves S.StoreState 1 warehouse.old.limits warehouse.old.store warehouse.new.store }
-{
-    let Some((connection, address)) = client else {
-        return;
     };
-    let (exchange, connection) = answer(rt.alloc(), router, room, connection, warehouse);
-    if is_logged {
-        // A log that cannot be written stops no service.
-        let _logged = log(rt, address, connection.first_line(&room.head), exchange);
-    }
-    let _ended = end_client(clients, room, (connection, address), exchange);
 }
 
-/// Answers so many clients, one at a time. False where one could not be accepted.
+/// Answers so many clients, one at a time, and ends the connection of each. One that went away is one of them. False where
+/// one could not be accepted.
 pub fn serve_on<'a, S: RunStore>(
     rt: &'a HostRuntime,
     clients: &mut Clients<'a>,
@@ -88,7 +72,12 @@ pub fn serve_on<'a, S: RunStore>(
         let Ok(client) = clients.next(&mut room.head, &mut room.fields) else {
             return false;
         };
-        serve_client(rt, router, warehouse, &mut room, clients, client, is_logged);
+        let Some((connection, address)) = client else {
+            continue;
+        };
+        let (exchange, connection) = answer(rt.alloc(), router, &mut room, connection, warehouse);
+        let client = (connection, address);
+        end_served(rt, clients, &mut room, client, exchange, is_logged);
     }
     let _ended = clients.finish(&mut room.head, &mut room.fields);
     true
@@ -139,59 +128,49 @@ fn listen<'a>(rt: &'a HostRuntime, port: u16) -> io::Result<Option<Clients<'a>>>
     }
 }
 
-/// Prints how a server ended, and answers the status. No guarantee: of what is printed the checker knows
+/// Prints why nothing is served, or no more, and answers the status. No guarantee: of what is printed the checker knows
 /// nothing.
-fn tell_end(rt: &HostRuntime, requests: u32, is_done: bool) -> io::Result<u8> {
-    if is_done {
-        println!(rt; "served {requests}")?;
-        return Ok(0);
-    }
-    println!(rt; "refused: read failed")?;
+fn refuse(rt: &HostRuntime, refusal: &str) -> io::Result<u8> {
+    println!(rt; "refused: {refusal}")?;
     Ok(1)
 }
 
-/// Serves a warehouse by these routes, as `serve`.
-fn serve_by<S: RunStore>(
-    rt: &HostRuntime,
-    router: &Router<Place>,
-    warehouse: &mut Warehouse<S>,
-    service: Service,
-) -> io::Result<u8>
-    requires router { router.now ≡ spec.routes }
-    ensures limits { warehouse.new.limits ≡ warehouse.old.limits }
-    ensures served { Serves S.StoreState service.requests warehouse.old.limits warehouse.old.store warehouse.new.store }
-{
-    let Some(mut clients) = listen(rt, service.port)? else {
-        return Ok(1);
-    };
-    let requests = service.requests;
-    let is_done = serve_on(rt, &mut clients, router, warehouse, requests, service.log);
-    tell_end(rt, requests, is_done)
+/// Prints how a server ended, and answers the status. No guarantee: as `refuse`.
+fn tell_end(rt: &HostRuntime, requests: u32, is_done: bool) -> io::Result<u8> {
+    if !is_done {
+        return refuse(rt, "read failed");
+    }
+    println!(rt; "served {requests}")?;
+    Ok(0)
 }
 
-/// Serves a warehouse on a port of 127.0.0.1: prints which, answers so many requests, prints that, and
-/// answers the status. A port that is taken, and a client that cannot be accepted, are a failed read.
-pub fn serve<S: RunStore>(
-    rt: &HostRuntime,
-    warehouse: &mut Warehouse<S>,
-    service: Service,
-) -> io::Result<u8>
-    ensures limits { warehouse.new.limits ≡ warehouse.old.limits }
-    ensures served { Serves S.StoreState service.requests warehouse.old.limits warehouse.old.store warehouse.new.store }
-{
-    let Ok(router) = routes(rt.alloc()) else {
-        println!(rt; "refused: out of memory")?;
-        return Ok(1);
-    };
-    serve_by(rt, &router, warehouse, service)
-}
-
-/// Serves an opened store, under the standard limits. It hands back the status, where all that the server
-/// itself says was printed, and the store.
+/// Serves an opened store, under the standard limits, on a port of 127.0.0.1: prints which, answers so many requests, and
+/// prints that. A port that is taken, and a client that cannot be accepted, are a failed read. It hands back the status,
+/// where all that the server itself says was printed, and the store.
 pub fn serve_over<S: RunStore>(rt: &HostRuntime, store: S, service: Service) -> (io::Result<u8>, S)
     ensures { IsFaithful S.StoreState result.1 → CameTo S.StoreState (AreOfRequests S.StoreState service.requests store result.1) store result.1 }
 {
     let mut warehouse = Warehouse::new(store, Limits::standard()).with_most(service.most);
-    let served = serve(rt, &mut warehouse, service);
-    (served, warehouse.into_store())
+    let Ok(router) = routes(rt.alloc()) else {
+        return (refuse(rt, "out of memory"), warehouse.into_store());
+    };
+    // Routes that are alive at a way out cost the prover much, so there is one.
+    let ended = match listen(rt, service.port) {
+        Ok(Some(mut clients)) => {
+            let requests = service.requests;
+            let is_done = serve_on(
+                rt,
+                &mut clients,
+                &router,
+                &mut warehouse,
+                requests,
+                service.log,
+            );
+            tell_end(rt, requests, is_done)
+        }
+        Ok(None) => Ok(1),
+        Err(error) => Err(error),
+    };
+    drop(router);
+    (ended, warehouse.into_store())
 }

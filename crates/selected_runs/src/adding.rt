@@ -1,4 +1,5 @@
-// Runs of a store, added one after another: the one loop over the runs of a selection.
+// Runs of a store, added one after another: the one loop over the runs of a selection, but for that of `number_runs` of
+// store_reports.
 ghost use Rattle.std.specs.Result.{is_ok};
 ghost use Rattle.run_stores.specs.Calls.{Told, AsksIfOpen};
 ghost use Rattle.selected_runs.specs.Added.{AreAdded};

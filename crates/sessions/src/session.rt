@@ -157,15 +157,21 @@ impl<'a, R: Files + AllocGlobal, W: Write + Drop, S: RunStore> Session<'a, R, W,
         ensures answered { IsFaithful S.StoreState self.new.warehouse.store
             → WasPerformed S.StoreState W.contents (WereRead R.File.remaining) (plain_request command.now) result self.old self.new }
     {
-        if let Command::Ask(Query::Csv(selection)) = command {
-            return self.ask_csv(selection);
-        }
-        let path = path_of(command);
-        let mut source = SeenFile::new(self.rt, path);
         let alloc = self.rt.alloc();
-        let answer = self.warehouse.perform(alloc, command, &mut source);
-        keep_remark(remarks, path, command, &answer, &source);
-        self.tell(answer)
+        match command {
+            Command::Ask(Query::Csv(selection)) => self.ask_csv(selection),
+            Command::Ask(query) => {
+                let answer = self.warehouse.ask(alloc, query);
+                self.tell(answer)
+            }
+            _ => {
+                let path = path_of(command);
+                let mut source = SeenFile::new(self.rt, path);
+                let answer = self.warehouse.perform(alloc, command, &mut source);
+                keep_remark(remarks, path, command, &answer, &source);
+                self.tell(answer)
+            }
+        }
     }
 }
 

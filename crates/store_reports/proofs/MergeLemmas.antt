@@ -1,9 +1,10 @@
 -- Cells of runs that are merged one after another.
-use Rattle.std.proofs.Common.{◌≡◌, ℕ, ◌*◌, List, [], ◌∷◌, ◌++◌, map, fold, Result, Ok, Err, IfOk, refl, sym, ap, ap₂, ◌∙◌, arith}
+use Rattle.std.proofs.Common.{◌≡◌, ℕ, ◌+◌, ◌*◌, ◌<◌, List, [], ◌∷◌, ◌++◌, map, fold, length, get_or, take, Result, Ok, Err, IfOk, refl, sym, ap, ap₂, ◌∙◌, arith}
 use Rattle.std.specs.Prelude.{unwrap_or}
 use Rattle.std.proofs.lemmas.Grind.{fold-append}
 use Rattle.std.proofs.lemmas.List.{map-append}
-use Rattle.cost_rows.specs.KeySums.{Sums, sums_by}
+use Rattle.std.proofs.lemmas.List.Sums.{fold_more}
+use Rattle.cost_rows.specs.KeySums.{sums_by}
 use Rattle.cost_rows.specs.declared.rows.CellRow.{CellRow}
 use Rattle.cost_rows.specs.declared.keys.Key.{Key}
 use Rattle.report_texts.specs.Costs.{all_rows, weighted}
@@ -15,7 +16,6 @@ use Rattle.run_stores.specs.Walks.{cell_numbers}
 use Rattle.number_sums.specs.Sums.{SumsByNumber, number_rows, with_number}
 use Rattle.number_sums.proofs.NamedSums.{named_at_the_end, rows_keep_key}
 use Rattle.store_reports.specs.Compared.{costs_over, named_sums}
-use Rattle.selected_runs.specs.Added.{AreAdded}
 use Rattle.selected_runs.specs.Counted.{event_cells}
 use Rattle.store_reports.specs.Reported.{numbers_from, weighted_numbers}
 use Rattle.selected_runs.specs.declared.counting.Counted.{Counted}
@@ -24,11 +24,6 @@ use Rattle.selected_runs.specs.declared.counting.Counted.{Counted}
 pub both_so : {T E : Type 0} (r : Result T E) {P Q R : T → Type 0} → IfOk r P → IfOk r Q → ((x : T) → P x → Q x → R x) → IfOk r R
 both_so (Ok x) p q so = so x p q
 both_so (Err e) p q so = p
-
--- steps that are told of each run
-pub all_steps : {R M : Type 0} (step : M → R → M) (runs : List R) (before after : M) → AreAdded (λ run old new. new ≡ step old run) runs before after → after ≡ fold step before runs
-all_steps step [] before after all = all
-all_steps step (run ∷ runs) before after all = all_steps step runs all.0 after all.2 ∙ ap (λ m. fold step m runs) all.1
 
 -- ---- the cells of one run, by number
 
@@ -49,6 +44,11 @@ none_taken sums (cell ∷ cells) =
     none_of cost = omega arith
 
 -- ---- runs one after another, by number
+
+-- those so far, and one more
+pub one_run_more : (t : Tables) (start sums more : SumsByNumber) (runs : List Counted) (at : ℕ) (run : Counted) → at < length runs → run ≡ get_or runs at run → sums ≡ fold (numbers_from t) start (take at runs) → more ≡ numbers_from t sums run
+    → more ≡ fold (numbers_from t) start (take (at + 1) runs)
+one_run_more t start sums more runs at run low is are one = one ∙ ap₂ (numbers_from t) are is ∙ sym (fold_more (numbers_from t) start runs at run low)
 
 -- their cells as they count in the event
 abbrev pub numbers_of : Tables → List Counted → List (CellRow ℕ)

@@ -1,9 +1,10 @@
 // The answers to questions by key.
-ghost use Rattle.std.specs.Prelude.{◌≡◌, ℕ, List, map, IfOk};
+ghost use Rattle.std.specs.Prelude.{◌≡◌, ℕ, [], List, fold, map, IfOk};
 ghost use Rattle.std.specs.List.{AllByRecursion};
 ghost use Rattle.std.specs.Result.{is_ok};
 ghost use Rattle.cost_rows.specs.KeySums.{total_of};
 ghost use Rattle.cost_rows.specs.Sums.{Spot};
+ghost use Rattle.cost_rows.specs.declared.keys.Key.{Key};
 ghost use Rattle.report_texts.specs.KeyReports.{report_of};
 ghost use Rattle.report_texts.specs.KeyTexts.{key_report_text};
 ghost use Rattle.cost_reports.specs.Enough.{AreEnough};
@@ -15,7 +16,8 @@ ghost use Rattle.number_sums.specs.Sums.{numbers_told};
 ghost use Rattle.requests.specs.Plain.{plain_selection};
 ghost use Rattle.requests.specs.declared.queries.Query.TheVariants.{By};
 ghost use Rattle.histories.specs.Answered.{AnswersAsked};
-ghost use Rattle.store_reports.specs.Reported.{AreShown, IsReported, report_over};
+ghost use Rattle.selected_runs.specs.declared.counting.Counted.{Counted};
+ghost use Rattle.store_reports.specs.Reported.{AreShown, IsReported, numbers_from, report_over};
 
 use crate::merging::number_runs;
 use cost_reports::{Cut, by};
@@ -24,7 +26,7 @@ use histories::Answer;
 use number_sums::{NumberSums, RankedSums};
 use requests::Selection;
 use run_stores::{NameTable, RunStore, StoreError};
-use selected_runs::{Counted, event_runs};
+use selected_runs::event_runs;
 use shared_texts::SharedText;
 use std::alloc::Global;
 
@@ -90,20 +92,19 @@ fn names_of_shown<S: RunStore>(
     store.names_among(alloc, &numbers)
 }
 
-/// The text of the report over some runs: only the names of sums that a cut can show are asked for.
-fn report_text<S: RunStore>(
+/// The text of the report over the runs that some sums are of: only the names of sums that a cut can show are asked for.
+fn shown_text<S: RunStore>(
     store: &mut S,
     alloc: Global,
-    runs: &[Counted],
-    key: Key,
+    sums: NumberSums,
     event: &[u8],
     cut: Cut,
     most: usize,
 ) -> Result<SharedText, StoreError>
-    ensures told { Told S.StoreState result store.old store.new (λ t text. text ≡ report_over t runs.now key event.now cut) }
+    ensures told { Told S.StoreState result store.old store.new (λ t text. (key : Key) (runs : List Counted)
+        → sums ≡ fold (numbers_from t) (record { key = key; sums = [] }) runs → text ≡ report_over t runs key event.now cut) }
     ensures asks { AsksIfOpen S.StoreState (is_ok result) store.old store.new }
 {
-    let sums = number_runs(store, alloc, runs, key)?;
     let shown = shown_sums(store, alloc, sums, cut)?;
     let names = names_of_shown(store, alloc, &shown)?;
     text_of_sums(alloc, &shown, &names, event, cut, most)
@@ -129,6 +130,9 @@ pub fn by_answer<S: RunStore>(
         Ok(runs) => runs,
         Err(refusal) => return Ok(Answer::Refused(refusal)),
     };
-    let text = report_text(store, alloc, runs.as_slice(), key, event, cut, most)?;
+    let sums = number_runs(store, alloc, runs.as_slice(), key);
+    // Runs that are alive at a way out cost the prover much.
+    drop(runs);
+    let text = shown_text(store, alloc, sums?, event, cut, most)?;
     Ok(Answer::Text(text))
 }

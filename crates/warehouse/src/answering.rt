@@ -1,18 +1,17 @@
-// Commands over a store, each with its answer.
-ghost use Rattle.std.specs.Prelude.{◌≡◌, ◌⊎◌, Err, IfOk, []};
+// What is asked and imported over a store, each with its answer.
+ghost use Rattle.std.specs.Prelude.{◌≡◌, ◌⊎◌, Err, IfOk};
 ghost use Rattle.plain_tables.specs.Labels.{IsLabel};
 ghost use Rattle.plain_tables.specs.declared.errors.StoreError.TheVariants.{Memory};
 ghost use Rattle.run_stores.specs.Calls.{IsFaithful, Tells};
 ghost use Rattle.histories.specs.Formats.{today};
 ghost use Rattle.histories.specs.History.{Annotate, Ask, Import};
-ghost use Rattle.histories.specs.Requests.{command_read};
 ghost use Rattle.histories.specs.declared.answers.Answer.{Answer};
-ghost use Rattle.requests.specs.Plain.{plain_command, plain_query, plain_selection};
+ghost use Rattle.requests.specs.Plain.{plain_query, plain_selection};
 ghost use Rattle.requests.specs.declared.queries.Query.TheVariants.{Csv};
 ghost use Rattle.histories.specs.Answered.{Answers, AnswersAsked};
 ghost use Rattle.histories.specs.FromTables.{OrFailed};
-ghost use Rattle.warehouse.specs.Answered.{IsGivenFor, IsShort, IsShortFor, ReadsNone, WasAnsweredOver};
-ghost use Rattle.warehouse.specs.FromTables.{AnswersIn, IsFoundOf, WasAnnotated, WasImported};
+ghost use Rattle.warehouse.specs.Answered.{IsGivenFor, IsShort, WasAnsweredOver};
+ghost use Rattle.warehouse.specs.FromTables.{AnswersIn, WasAnnotated, WasImported};
 
 use crate::refusals::unread_answer;
 use byte_io::{Source, read_to_end};
@@ -21,13 +20,11 @@ use file_reading::parse_file;
 use histories::{Answer, Limits, Refusal, answer_of};
 use profile_records::Kind;
 use report_texts::CallSide;
-use requests::{Command, Query, Selection};
+use requests::{Query, Selection};
 use run_stores::{RunStore, StoreError};
 use std::alloc::Global;
 use store_calls::{calls_answer, inclusive_answer};
-use store_commands::{
-    GroupChange, change_in, groups_answer, import_parsed, label_of, remove_in, runs_answer,
-};
+use store_commands::{groups_answer, import_parsed, label_of, runs_answer};
 use store_exports::{annotate_answer, csv_answer, csv_sums, folded_answer};
 use store_reports::{by_answer, subtract_answer, verify_answer};
 
@@ -77,7 +74,7 @@ pub(crate) fn import_in<S: RunStore, R: Source>(
 }
 
 /// What a question is answered. No text is made much longer than `most` bytes.
-fn answer<S: RunStore>(
+pub(crate) fn answer<S: RunStore>(
     store: &mut S,
     alloc: Global,
     most: usize,
@@ -146,7 +143,10 @@ fn answer<S: RunStore>(
 }
 
 /// Refuses a text of more than `most` bytes, as one that there is no memory for.
-fn keep_short(answered: Result<Answer, StoreError>, most: usize) -> Result<Answer, StoreError>
+pub(crate) fn keep_short(
+    answered: Result<Answer, StoreError>,
+    most: usize,
+) -> Result<Answer, StoreError>
     ensures kept { (result ≡ answered) ⊎ (result ≡ Err Memory) }
     ensures short { IfOk result (IsShort most) }
 {
@@ -156,17 +156,6 @@ fn keep_short(answered: Result<Answer, StoreError>, most: usize) -> Result<Answe
         }
     }
     answered
-}
-
-/// Answers a question.
-fn ask_in<S: RunStore>(store: &mut S, alloc: Global, most: usize, query: &Query<&[u8]>) -> Answer
-    ensures answered { (limits : _) → IsFaithful S.StoreState store.new
-        → Answers S.StoreState limits (Ask (plain_query query.now)) result store.old store.new }
-    ensures found { Tells S.StoreState store.old store.new (λ t. OrFailed (AnswersIn (plain_query query.now) t) result) }
-    ensures short { IsShort most result }
-{
-    let answered = answer(store, alloc, most, query);
-    answer_of(keep_short(answered, most))
 }
 
 /// Shows what each line of a source costs. It is read first.
@@ -210,35 +199,5 @@ pub(crate) fn csv_in<S: RunStore>(
         Ok(Ok(sums)) => Ok(sums),
         Ok(Err(refusal)) => Err(Answer::Refused(refusal)),
         Err(failure) => Err(answer_of(Err(failure))),
-    }
-}
-
-/// Does what a command says that reads no source, and answers it.
-pub(crate) fn act_in<S: RunStore, P>(
-    store: &mut S,
-    alloc: Global,
-    limits: Limits,
-    most: usize,
-    command: &Command<P, &[u8]>,
-) -> Answer
-    requires { ReadsNone command.now }
-    ensures answered { IsFaithful S.StoreState store.new
-        → Answers S.StoreState limits (command_read (plain_command command.now) []) result store.old store.new }
-    ensures found { IsFoundOf S.StoreState limits (plain_command command.now) result store.old store.new }
-    ensures short { IsShortFor most command.now result }
-{
-    match command {
-        Command::Remove(number) => remove_in(store, *number),
-        Command::MakeGroup(name) => change_in(store, limits, name, GroupChange::Make),
-        Command::DropGroup(name) => change_in(store, limits, name, GroupChange::Drop),
-        Command::Join(name, number) => change_in(store, limits, name, GroupChange::Join(*number)),
-        Command::Leave(name, number) => {
-            change_in(store, limits, name, GroupChange::Leave(*number))
-        }
-        Command::SetBaseline(name, number) => {
-            change_in(store, limits, name, GroupChange::SetBaseline(*number))
-        }
-        Command::Ask(query) => ask_in(store, alloc, most, query),
-        _ => unreachable!(),
     }
 }

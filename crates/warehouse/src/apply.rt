@@ -1,27 +1,28 @@
 // Commands, one by one and in lists.
-ghost use Rattle.std.specs.Prelude.{◌≡◌, IfOk, OnErr};
+ghost use Rattle.std.specs.Prelude.{◌≡◌, [], IfOk, OnErr};
 ghost use Rattle.run_stores.specs.Calls.{IsFaithful, Tells};
 ghost use Rattle.histories.specs.Formats.{today};
 ghost use Rattle.histories.specs.History.{Ask, Import};
 ghost use Rattle.histories.specs.Requests.{command_read};
 ghost use Rattle.histories.specs.declared.answers.Answer.{Answer};
-ghost use Rattle.requests.specs.Plain.{plain_command, plain_selection};
+ghost use Rattle.requests.specs.Plain.{plain_command, plain_query, plain_selection};
 ghost use Rattle.requests.specs.declared.queries.Query.TheVariants.{Csv};
 ghost use Rattle.histories.specs.Answered.{Answers};
 ghost use Rattle.histories.specs.FromTables.{OrFailed};
-ghost use Rattle.warehouse.specs.Answered.{IsGivenFor, IsShortFor, ReadsNone, WasAnswered, WasAnsweredOver, WasRun};
-ghost use Rattle.warehouse.specs.FromTables.{AnswersIn, IsFoundWithSource, IsFoundOver, WasImported};
+ghost use Rattle.warehouse.specs.Answered.{IsGivenFor, IsShort, IsShortFor, ReadsNone, WasAnswered, WasAnsweredOver, WasRun};
+ghost use Rattle.warehouse.specs.FromTables.{AnswersIn, IsFoundOf, IsFoundWithSource, IsFoundOver, WasImported};
 
-use crate::answering::{act_in, annotate_in, csv_in, import_in};
+use crate::answering::{annotate_in, answer, csv_in, import_in, keep_short};
 use crate::warehouse::Warehouse;
 use byte_io::Source;
 use cost_exports::CellSums;
-use histories::Answer;
+use histories::{Answer, answer_of};
 use profile_records::Kind;
-use requests::{Command, Selection};
+use requests::{Command, Query, Selection};
 use run_stores::RunStore;
 use std::alloc::{AllocError, Global};
 use std::collections::VecDeque;
+use store_commands::{GroupChange, change_in, remove_in};
 
 impl<S: RunStore> Warehouse<S> {
     /// Imports the file that a source gives, a piece at a time. The source is read to its end even
@@ -42,6 +43,18 @@ impl<S: RunStore> Warehouse<S> {
         import_in(&mut self.store, alloc, self.limits, kind, label, source)
     }
 
+    /// Answers a question.
+    pub fn ask(&mut self, alloc: Global, query: &Query<&[u8]>) -> Answer
+        ensures limits { self.new.limits ≡ self.old.limits }
+        ensures short { IsShort self.old.most result }
+        ensures answered { IsFaithful S.StoreState self.new.store
+            → Answers S.StoreState self.old.limits (Ask (plain_query query.now)) result self.old.store self.new.store }
+        ensures found { Tells S.StoreState self.old.store self.new.store (λ t. OrFailed (AnswersIn (plain_query query.now) t) result) }
+    {
+        let answered = answer(&mut self.store, alloc, self.most, query);
+        answer_of(keep_short(answered, self.most))
+    }
+
     /// Sums up what places cost over the runs of a selection, so that who asks can write their text as it is
     /// made: that text is the answer to the question, or where there is no memory for it the refusal of that.
     /// A question that is refused is answered as such.
@@ -53,6 +66,34 @@ impl<S: RunStore> Warehouse<S> {
             → Tells S.StoreState self.old.store self.new.store (λ t. OrFailed (AnswersIn (Csv (plain_selection selection.now)) t) answer) }
     {
         csv_in(&mut self.store, alloc, selection)
+    }
+
+    /// Does what a command says that reads no source, and answers it.
+    fn act<P>(&mut self, alloc: Global, command: &Command<P, &[u8]>) -> Answer
+        requires { ReadsNone command.now }
+        ensures limits { self.new.limits ≡ self.old.limits }
+        ensures short { IsShortFor self.old.most command.now result }
+        ensures answered { IsFaithful S.StoreState self.new.store
+            → Answers S.StoreState self.old.limits (command_read (plain_command command.now) []) result self.old.store self.new.store }
+        ensures found { IsFoundOf S.StoreState self.old.limits (plain_command command.now) result self.old.store self.new.store }
+    {
+        let (store, limits) = (&mut self.store, self.limits);
+        match command {
+            Command::Remove(number) => remove_in(store, *number),
+            Command::MakeGroup(name) => change_in(store, limits, name, GroupChange::Make),
+            Command::DropGroup(name) => change_in(store, limits, name, GroupChange::Drop),
+            Command::Join(name, number) => {
+                change_in(store, limits, name, GroupChange::Join(*number))
+            }
+            Command::Leave(name, number) => {
+                change_in(store, limits, name, GroupChange::Leave(*number))
+            }
+            Command::SetBaseline(name, number) => {
+                change_in(store, limits, name, GroupChange::SetBaseline(*number))
+            }
+            Command::Ask(query) => self.ask(alloc, query),
+            _ => unreachable!(),
+        }
     }
 
     /// Does what a command says, and answers it. Where it imports a file or annotates a source, the bytes of that come
@@ -86,7 +127,7 @@ impl<S: RunStore> Warehouse<S> {
                 file,
                 ..
             } => annotate_in(store, alloc, self.most, selection, event, file, source),
-            other => act_in(store, alloc, self.limits, self.most, other),
+            other => self.act(alloc, other),
         }
     }
 
@@ -118,7 +159,7 @@ impl<S: RunStore> Warehouse<S> {
                 file,
                 &mut source,
             ),
-            other => act_in(store, alloc, self.limits, self.most, &other),
+            other => self.act(alloc, &other),
         }
     }
 

@@ -17,6 +17,8 @@ returns-in-Ok-clause-exchanged g c =
     let head = found.1 in
     let long = length-take filled c.read_head.new.buffer in
     let short : length front ≤ head_limit = omega (arith, long, got.within) in
+    let body = c.reply_to-reply.ensures.replied head found.2 in
+    let sent = c.send_reply.ensures in
     inl (record {
       head_reads = came.0;
       headed = c.read_head.new.stream;
@@ -27,5 +29,14 @@ returns-in-Ok-clause-exchanged g c =
       begins = subst (λ b. BeginsWith b head (drop spans.len front)) (sym got.held) (begins_at front fields spans head short found.0 found.2);
       told = c.head_came.new.self;
       heard = c.head_came.ensures;
-      responded = c.serve.ensures.responded head found.2;
+      responded = record {
+        body_reads = body.0;
+        bodied = c.reply_to-reply.result.1;
+        body_came = body.1;
+        reply = sent.0;
+        replied = body.2 sent.0 sent.1;
+        written = sent.2;
+        went = sent.3;
+        sent = sent.4;
+      };
     })

@@ -1,11 +1,19 @@
-use Rattle.std.proofs.Common.{◌≡◌, [], fold, ap, ◌∙◌}
-use Rattle.histories.proofs.Questions.{if_ok_so}
-use Rattle.store_reports.specs.Reported.{numbers_from}
-use Rattle.store_reports.proofs.MergeLemmas.{all_steps}
+use Rattle.std.proofs.Common.{◌<◌, true, [], length, arith}
+use Rattle.run_stores.proofs.Calls.{asked_open_then, asked_reads_yet}
+use Rattle.store_reports.proofs.MergeLemmas.{one_run_more}
 use Rattle.store_reports.proofs.merging.number_runs.Goals as goal
 
-pub returns-clause-told : goal.returns-clause-told
-returns-clause-told g c clean t represents =
+pub loop-run-preserved : goal.loop-run-preserved
+loop-run-preserved g c =
+    let i = c.loop-run.invariant in
     let runs = c.args.runs.now in
-    let none : c.new.result ≡ record { key = c.args.key; sums = [] } = λ k. record { key = c.new.ensures.key k; sums = c.new.ensures.sums k } in
-    if_ok_so c.fold_runs.result (λ sums added. all_steps (numbers_from t) runs _ sums added ∙ ap (λ start. fold (numbers_from t) start runs) none) (c.fold_runs.ensures.told clean t represents)
+    let at = c.loop-run.run-index in
+    let low : at < length runs = omega arith in
+    let one = c.in_ok-sums.ensures in
+    record {
+      asked = λ clean. let asks = one.asks clean in asked_open_then g.S.StoreState true _ _ _ (i.asked asks.stays.was_faithful) asks;
+      told = λ clean t represents.
+          let early = (one.asks clean).stays.was_faithful in
+          let mid = asked_reads_yet g.S.StoreState t _ _ (i.asked early) represents in
+          one_run_more t (record { key = c.args.key; sums = [] }) c.loop-run.sums c.in_ok-sums.sums runs at c.run-item.result low c.run-item.is (i.told early t represents) (one.told clean t mid);
+    }

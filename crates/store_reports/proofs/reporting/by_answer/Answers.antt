@@ -1,7 +1,8 @@
-use Rattle.std.proofs.Common.{◌≡◌, Ok, Err, ap, refl, subst, rules}
+use Rattle.std.proofs.Common.{◌≡◌, [], true, fold, Ok, Err, ap, refl, subst, rules}
 use Rattle.requests.specs.Plain.{plain_selection}
+use Rattle.run_stores.proofs.Calls.{asked_open_then, asked_reads_yet}
 use Rattle.histories.specs.declared.answers.Answer.TheVariants.{Text}
-use Rattle.store_reports.specs.Reported.{report_over}
+use Rattle.store_reports.specs.Reported.{numbers_from}
 use Rattle.histories.proofs.Questions.{asked_once}
 use Rattle.selected_runs.proofs.AskLemmas.{asked_twice}
 use Rattle.store_reports.proofs.ByLemmas.{reported_is_expected}
@@ -19,10 +20,14 @@ returns-in-Err g c clean =
 pub returns : goal.returns
 returns g c clean =
     let selection = plain_selection c.args.selection.now in
-    let text = c.in_ok-text.text in
     let runs : c.as_slice.result.now ≡ c.in-Ok.runs = search rules in
-    asked_twice g.S.StoreState _ _ (reported_is_expected selection c.args.key c.args.event.now c.args.cut) _ _ _ _ refl c.in_ok-runs.ensures.asks (c.in_ok-text.ensures.asks clean) (λ t represents early mid. record {
+    let shown = c.in_ok-text.ensures in
+    let late = (shown.asks clean).stays.was_faithful in
+    let summed = c.in_ok-sums.ensures in
+    asked_twice g.S.StoreState _ _ (reported_is_expected selection c.args.key c.args.event.now c.args.cut) _ _ _ _ refl c.in_ok-runs.ensures.asks
+    (asked_open_then g.S.StoreState true _ _ _ (summed.asks late) (shown.asks clean)) (λ t represents early mid. record {
       found = Ok c.in-Ok.runs;
       is_found = rw c.in-Ok.is at (c.in_ok-runs.ensures.told early t represents);
-      answer_is = ap Text (subst (λ rs. text ≡ report_over t rs c.args.key c.args.event.now c.args.cut) runs (c.in_ok-text.ensures.told clean t mid));
+      answer_is = ap Text (shown.told clean t (asked_reads_yet g.S.StoreState t _ _ (summed.asks late) mid) c.args.key c.in-Ok.runs
+          (subst (λ rs. c.in_ok-sums.field-0 ≡ fold (numbers_from t) (record { key = c.args.key; sums = [] }) rs) runs (summed.told late t mid)));
     })

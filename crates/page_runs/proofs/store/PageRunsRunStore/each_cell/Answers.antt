@@ -1,42 +1,50 @@
-use Rattle.std.proofs.Common.{refl, sym, subst}
+use Rattle.std.proofs.Common.{refl, sym, subst, arith}
 use Rattle.run_stores.specs.Walks.{CellsFoldTo}
 use Rattle.plain_tables.specs.RunRows.{cells_in}
+use Rattle.plain_tables.specs.Tables.{Tables}
 use Rattle.store_schema.specs.Schema.{thread_cell_at}
 use Rattle.store_schema.specs.Tables.{cell_columns}
+use Rattle.page_files.specs.Files.{IsFaithful}
 use Rattle.page_lists.specs.Shown.{ShowsLines}
+use Rattle.page_lists.specs.Walks.{AreOfRun}
+use Rattle.page_runs.proofs.RunLines.{cells_are}
 use Rattle.page_runs.proofs.Taken.{large_shown}
 use Rattle.page_runs.specs.Kept.{HasGathered}
+use Rattle.page_runs.specs.States.{ShowsTables}
 use Rattle.page_runs.proofs.States.{asked, asked_keeping, none_told, stays_read, asked_nothing, asked_usable}
 use Rattle.std.proofs.lemmas.Result.{IfOk-from_err}
+use Rattle.page_runs.proofs.store.PageRunsRunStore.each_cell.Given.{Over}
 use Rattle.page_runs.proofs.store.PageRunsRunStore.each_cell.Goals as goal
 
-pub returns-clause-told : goal.returns-clause-told
-returns-clause-told g c faithful t is =
+-- what was taken of the rows, and gathered of them
+taken : (g : Over) (c : goal.After-finish g) (t : Tables) → IsFaithful c.each_line.new.file → ShowsTables t c.args.self.now
+    → CellsFoldTo c.args.events g.T.CellSink.step (g.T.CellSink.meaning c.args.sink) (g.T.CellSink.meaning c.finish.result) (cells_in c.args.run t) × HasGathered (cells_in c.args.run t) c.in_ok-taken.taken.gathered
+taken g c t faithful shows =
+    let store = c.args.self.now in
     let sink = g.T.CellSink in
     let start = sink.meaning c.args.sink in
-    let made = c.in_ok-table.ensures t is.shows.listed in
-    let root = made.root_is in
-    let run = made.run_is in
-    let there = subst (λ n. ShowsLines c.args.self.now.file n thread_cell_at cell_columns t.cells) (sym root) (large_shown t c.args.self.now is.shows).cells in
-    (let both = c.in_ok-taken.ensures.told faithful t there in subst (λ n. CellsFoldTo c.args.events sink.step start (sink.meaning c.in_ok-taken.taken) (cells_in n t)) run both.0)
+    let made = c.in_ok-table.ensures t shows.listed in
+    let there = subst (λ n. ShowsLines store.file n thread_cell_at cell_columns t.cells) (sym made.root_is) (large_shown t store shows).cells in
+    let (lines, are, sums, (has, gathered)) = c.in_ok-taken.ensures.handed faithful there.rows there.shows there.in_order (c.args.events, start) (c.new.ensures, c.begin.ensures) in
+    let same = cells_are t store.file c.in_ok-table.table.root c.args.run (omega arith) there lines (subst (λ n. AreOfRun cell_columns n there.rows lines) made.run_is are) in (
+      subst (CellsFoldTo c.args.events sink.step start (sink.meaning c.finish.result)) (sym same) (c.finish.ensures c.args.events start lines has),
+      subst (λ l. HasGathered l c.in_ok-taken.taken.gathered) (sym same) gathered,
+    )
+
+pub returns-clause-told : goal.returns-clause-told
+returns-clause-told g c faithful t is = (taken g c t faithful is.shows).0
 
 pub returns-clause-asks : goal.returns-clause-asks
 returns-clause-asks g c =
-    let store = c.args.self.now in
-    asked_keeping _ _ (stays_read _ _ c.each_cell.ensures.reads) refl refl
-    (λ clean t is.
-    let made = c.in_ok-table.ensures t is.listed in
-    let root = made.root_is in
-    let run = made.run_is in
-    let there = subst (λ n. ShowsLines store.file n thread_cell_at cell_columns t.cells) (sym root) (large_shown t store is).cells in
-    c.keep.ensures.kept t is.kept_cells (subst (λ n. HasGathered (cells_in n t) c.in_ok-taken.gathered) run (c.in_ok-taken.ensures.told clean t there).2))
+    asked_keeping _ _ (stays_read _ _ c.each_line.ensures.reads) refl refl
+    (λ clean t is. c.keep.ensures.kept t is.kept_cells (taken g c t clean is).1)
     _ (λ _. c.in_ok-if_usable-2.ensures)
 
 pub returns-in_err-taken-clause-asks : goal.returns-in_err-taken-clause-asks
-returns-in_err-taken-clause-asks g c = asked _ _ c.each_cell.ensures.reads refl refl refl _ (none_told _ _ c.from_residual-in_err-taken.ensures.0)
+returns-in_err-taken-clause-asks g c = asked _ _ c.each_line.ensures.reads refl refl refl _ (none_told _ _ c.from_residual-in_err-taken.ensures.0)
 
 pub returns-in_err-if_usable-2-clause-asks : goal.returns-in_err-if_usable-2-clause-asks
-returns-in_err-if_usable-2-clause-asks g c = asked _ _ c.each_cell.ensures.reads refl refl refl _ (none_told _ _ c.from_residual-in_err-if_usable-2.ensures.0)
+returns-in_err-if_usable-2-clause-asks g c = asked _ _ c.each_line.ensures.reads refl refl refl _ (none_told _ _ c.from_residual-in_err-if_usable-2.ensures.0)
 
 pub returns-in_err-table-clause-told : goal.returns-in_err-table-clause-told
 returns-in_err-table-clause-told g c = λ faithful t is. IfOk-from_err c.from_residual-in_err-table.result _ c.from_residual-in_err-table.ensures.0

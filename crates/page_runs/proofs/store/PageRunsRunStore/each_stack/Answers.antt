@@ -1,31 +1,34 @@
-use Rattle.std.proofs.Common.{fold, refl, sym, ap, subst, ◌∙◌}
-use Rattle.run_stores.specs.Book.{stacks_held}
+use Rattle.std.proofs.Common.{fold, map, refl, sym, ap, subst, ◌∙◌, arith}
+use Rattle.std.proofs.lemmas.Result.{IfOk-from_err}
+use Rattle.run_stores.specs.Book.{stack_held}
 use Rattle.store_schema.specs.Schema.{stack_at}
 use Rattle.store_schema.specs.Tables.{stack_columns}
 use Rattle.page_lists.specs.Shown.{ShowsLines}
+use Rattle.page_lists.specs.Walks.{AreOfRun}
+use Rattle.page_runs.proofs.RunLines.{stacks_are}
 use Rattle.page_runs.proofs.Taken.{large_shown}
 use Rattle.page_runs.proofs.States.{asked, none_told, asked_nothing}
-use Rattle.std.proofs.lemmas.Result.{IfOk-from_err}
 use Rattle.page_runs.proofs.store.PageRunsRunStore.each_stack.Goals as goal
 
 pub returns-clause-told : goal.returns-clause-told
 returns-clause-told g c faithful t is =
+    let store = c.args.self.now in
     let sink = g.T.StackRowSink in
     let start = sink.meaning c.args.sink in
     let made = (c.in_ok-table.ensures t is.shows.listed).2 in
-    let root = made.root_is in
-    let run = made.run_is in
-    let there = subst (λ n. ShowsLines c.args.self.now.file n stack_at stack_columns t.stacks) (sym root) (large_shown t c.args.self.now is.shows).stacks in
-    (let both = c.in_ok-taken.ensures.told faithful t there in both.0 ∙ ap (λ n. fold sink.step start (stacks_held n t)) run)
+    let there = subst (λ n. ShowsLines store.file n stack_at stack_columns t.stacks) (sym made.root_is) (large_shown t store is.shows).stacks in
+    let (lines, are, sums, has) = c.in_ok-taken.ensures.handed faithful there.rows there.shows there.in_order start c.new.ensures in
+    let same = stacks_are t store.file c.in_ok-table.table.root c.args.run (omega arith) there lines (subst (λ n. AreOfRun stack_columns n there.rows lines) made.run_is are) in
+    c.finish.ensures start lines has ∙ ap (λ l. fold sink.step start (map stack_held l)) (sym same)
 
 pub returns-clause-asks : goal.returns-clause-asks
-returns-clause-asks g c = asked _ _ c.each_stack.ensures.reads refl refl refl _ (λ _. c.in_ok-if_usable.ensures)
+returns-clause-asks g c = asked _ _ c.each_line.ensures.reads refl refl refl _ (λ _. c.in_ok-if_usable.ensures)
 
 pub returns-in_err-taken-clause-asks : goal.returns-in_err-taken-clause-asks
-returns-in_err-taken-clause-asks g c = asked _ _ c.each_stack.ensures.reads refl refl refl _ (none_told _ _ c.from_residual-in_err-taken.ensures.0)
+returns-in_err-taken-clause-asks g c = asked _ _ c.each_line.ensures.reads refl refl refl _ (none_told _ _ c.from_residual-in_err-taken.ensures.0)
 
 pub returns-in_err-if_usable-clause-asks : goal.returns-in_err-if_usable-clause-asks
-returns-in_err-if_usable-clause-asks g c = asked _ _ c.each_stack.ensures.reads refl refl refl _ (none_told _ _ c.from_residual-in_err-if_usable.ensures.0)
+returns-in_err-if_usable-clause-asks g c = asked _ _ c.each_line.ensures.reads refl refl refl _ (none_told _ _ c.from_residual-in_err-if_usable.ensures.0)
 
 pub returns-in_err-table-clause-told : goal.returns-in_err-table-clause-told
 returns-in_err-table-clause-told g c = λ faithful t is. IfOk-from_err c.from_residual.result _ c.from_residual.ensures.0

@@ -20,19 +20,34 @@ returns-in-Ask-Csv-clause-answered g c clean =
       subst (λ query. WasTold g.S.StoreState g.W.Write.contents (Ask (plain_query query)) c.ask_csv.result c.args.self.now c.ask_csv.new.self) (sym csv) (c.ask_csv.ensures.answered clean),
     )
 
-pub returns-clause-answered : goal.returns-clause-answered
-returns-clause-answered g c clean =
+pub returns-in-Ask-clause-answered : goal.returns-in-Ask-clause-answered
+returns-in-Ask-clause-answered g c clean =
     let old = c.args.self.now in
     let new = c.tell.new.self in
     let same = c.tell.ensures.warehouse in
+    let early = subst (λ w. IsFaithful g.S.StoreState w.store) same clean in
+    let command = Ask (plain_query c.in-Ask.query) in
+    subst (λ one. WasPerformed g.S.StoreState g.W.Write.contents (WereRead g.R.File.Read.remaining) (plain_request one) c.tell.result old new) (sym c.in-Ask.is) (
+      [],
+      none_read g.R.File.Read.remaining,
+      told g.S.StoreState g.W.Write.contents command c.ask-answer.result c.tell.result old new
+          (subst (λ w. Answers g.S.StoreState old.warehouse.limits command c.ask-answer.result old.warehouse.store w.store) (sym same) (c.ask-answer.ensures.answered early))
+          c.tell.ensures.status c.tell.ensures.printed,
+    )
+
+pub returns-in_default-clause-answered : goal.returns-in_default-clause-answered
+returns-in_default-clause-answered g c clean =
+    let old = c.args.self.now in
+    let new = c.tell-in_default.new.self in
+    let same = c.tell-in_default.ensures.warehouse in
     let early = subst (λ w. IsFaithful g.S.StoreState w.store) same clean in
     let it = c.perform-answer.ensures.answered in
     let outcomes = it.outcomes in
     let command = command_read (plain_request c.args.command.now) outcomes in (
       outcomes,
       were_read g.R.File.Read.remaining _ _ outcomes c.new-source.ensures it.came,
-      told g.S.StoreState g.W.Write.contents command c.perform-answer.result c.tell.result old new
+      told g.S.StoreState g.W.Write.contents command c.perform-answer.result c.tell-in_default.result old new
           (subst (λ w. Answers g.S.StoreState old.warehouse.limits command c.perform-answer.result old.warehouse.store w.store) (sym same)
           (subst (λ k. Answers g.S.StoreState old.warehouse.limits k c.perform-answer.result old.warehouse.store c.perform-answer.new.self.store) (read_alike c.args.command.now outcomes) (it.answers early)))
-          c.tell.ensures.status c.tell.ensures.printed,
+          c.tell-in_default.ensures.status c.tell-in_default.ensures.printed,
     )

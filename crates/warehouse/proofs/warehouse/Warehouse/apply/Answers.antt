@@ -43,12 +43,12 @@ returns-in_default g c =
     let command = c.args.command in
     let none : ReadsNone command = search rules in
     record {
-      limits = refl;
-      short = c.act_in.ensures.short;
+      limits = c.act.ensures.limits;
+      short = c.act.ensures.short;
       answered = record {
         command = command_read (plain_command command) [];
         says = says_none g.R.Source.reads command none;
-        answers = c.act_in.ensures.answered;
+        answers = c.act.ensures.answered;
       };
-      found = found_in g.S.StoreState g.R.Source.reads c.args.self.now.limits command c.act_in.result c.args.self.now.store c.act_in.new.store none c.act_in.ensures.found;
+      found = found_in g.S.StoreState g.R.Source.reads c.args.self.now.limits command c.act.result c.args.self.now.store c.act.new.self.store none c.act.ensures.found;
     }

@@ -39,9 +39,9 @@ returns-in_default g c =
     let command = c.args.command.now in
     let none : ReadsNone command = search rules in
     record {
-      limits = refl;
-      short = c.act_in.ensures.short;
+      limits = c.act.ensures.limits;
+      short = c.act.ensures.short;
       unread = λ _. refl;
-      answered = record { outcomes = []; came = refl; answers = c.act_in.ensures.answered };
-      found = found_over g.S.StoreState g.R.Source.reads c.args.self.now.limits command c.args.source.now c.args.source.now c.act_in.result c.args.self.now.store c.act_in.new.store none c.act_in.ensures.found;
+      answered = record { outcomes = []; came = refl; answers = c.act.ensures.answered };
+      found = found_over g.S.StoreState g.R.Source.reads c.args.self.now.limits command c.args.source.now c.args.source.now c.act.result c.args.self.now.store c.act.new.self.store none c.act.ensures.found;
     }
