@@ -127,10 +127,6 @@ module _ (file : List ℕ) (passes : ℕ → Bool) where
   abbrev there : Spot → Bool
   there p = bytes_eq p.file file && passes p.line
 
-  in_file : (a b : Bool) (n : ℕ) → (if a then (if b then n else 0) else 0) ≡ (if a && b then n else 0)
-  in_file true b n = refl
-  in_file false b n = refl
-
   records-where : (costs : List (Spot × ℕ)) → sum_where passes (λ n. n) (costs_in file costs) ≡ cost_where Line there (rows_of costs)
   records-where [] = refl
   records-where (e ∷ costs) = go (bytes_eq e.0.file file) (records-where costs)

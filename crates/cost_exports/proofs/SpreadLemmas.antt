@@ -11,7 +11,6 @@ use Rattle.std.specs.Ordering.{match_ordering, nat_cmp, ordering_then}
 use Rattle.std.proofs.lemmas.Bool.{cases_Bool}
 use Rattle.std.proofs.lemmas.Cmp.{on_total, then_total, tied_itself}
 use Rattle.std.proofs.lemmas.Map.Keys.{sorted_head, sorted_tail}
-use Rattle.std.proofs.lemmas.Map.Lookups.{exact_unsigned}
 use Rattle.cost_rows.specs.Keys.{named_cmp}
 use Rattle.cost_rows.specs.Merging.{merge, TellsApart}
 use Rattle.cost_rows.specs.Stacks.{bytes_cmp, counts_added}
@@ -51,12 +50,6 @@ names-apart a b h =
 
 pub line-total : IsTotalOrder line_cmp
 line-total = then_total (on_total (λ (l : LineEvent). l.line) nat_cmp_total) (on_total (λ (l : LineEvent). l.event) nat_list_cmp_total)
-
-pub line-apart : TellsApart line_cmp
-line-apart a b h =
-    let both = both_equal (nat_cmp a.line b.line) (bytes_cmp a.event b.event) h in
-    let make : ℕ → List ℕ → LineEvent = λ line event. record { line = line; event = event } in
-    ap₂ make (exact_unsigned a.line b.line both.0) (bytes_apart a.event b.event both.1)
 
 -- names first, then lines and events; none of the places tells a thread
 grouped : (a b d e f : Ordering) → ordering_then (ordering_then a (ordering_then b (ordering_then d (ordering_then e Equal)))) f ≡ ordering_then (ordering_then a (ordering_then b d)) (ordering_then e f)

@@ -56,9 +56,6 @@ pub seconds_by : (passes : Spot → Bool) (amounts : List (Spot × Pair)) → su
 seconds_by passes amounts =
     sum-merge_all named_cmp-apart pairs_added passes (λ (p : Pair). p.second) (λ x y. refl) [] amounts ∙ none_before (sum_where passes (λ (p : Pair). p.second) amounts)
 
-pub total_by : (amounts : List (Spot × Pair)) → pair_total (pairs_by amounts) ≡ pair_total amounts
-total_by amounts = ap₂ pair (firsts_by (λ _. true) amounts) (seconds_by (λ _. true) amounts)
-
 -- each place stands once, in order
 pub sorted_by : (amounts : List (Spot × Pair)) → IsStrictlySortedBy named_cmp (keys_of (pairs_by amounts))
 unfolding IsStrictlySortedBy

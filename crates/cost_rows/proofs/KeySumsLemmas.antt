@@ -5,12 +5,12 @@ use Rattle.std.specs.declared.cmp.Ordering.TheVariants.{Less, Equal, Greater}
 use Rattle.std.specs.Ordering.{match_ordering}
 use Rattle.std.specs.List.{AllByRecursion}
 use Rattle.std.specs.Map.{values_of}
-use Rattle.std.proofs.lemmas.Bool.{cases_Bool, eqb-true}
+use Rattle.std.proofs.lemmas.Bool.{cases_Bool, eqb-true, ne_eqb}
 use Rattle.cost_rows.specs.Sums.{Spot}
 use Rattle.cost_rows.specs.Keys.{named_cmp, part_of, place_of_row}
 use Rattle.cost_rows.specs.Merging.{merge, sum_where}
 use Rattle.cost_rows.specs.Stacks.{counts_added}
-use Rattle.cost_rows.specs.KeySums.{AreSums, Sums, with_row, total_of, cost_where}
+use Rattle.cost_rows.specs.KeySums.{AreSums, Sums, sums_with, with_row, total_of, cost_where}
 use Rattle.cost_rows.specs.declared.keys.Key.{Key}
 use Rattle.cost_rows.specs.declared.rows.CellRow.{CellRow}
 use Rattle.cost_rows.proofs.KeysLemmas.{named_cmp-total, named_cmp-apart}
@@ -66,3 +66,7 @@ sums-are (row ∷ rows) s are = sums-are rows (with_row s row) (sums-row s row a
 -- the sum of all grows by what is merged
 pub total-merge : (new old : List (Spot × ℕ)) (part : Spot) (cost : ℕ) → new ≡ merge named_cmp counts_added old part cost → total_of new ≡ total_of old + cost
 total-merge new old part cost e = ap total_of e ∙ sum-merge named_cmp-apart counts_added (λ _. true) (λ n. n) (λ x y. refl) old part cost
+
+-- a row's cost, added at its part
+pub row-with : (s : Sums) (row : CellRow (List ℕ)) (new : List (Spot × ℕ)) → (row.cost ≡ 0 → ⊥) → new ≡ sums_with (part_of s.key (place_of_row row)) row.cost s.sums → record { key = s.key; sums = new } ≡ with_row s row
+row-with s row new some is = rw (ne_eqb row.cost 0 some) (ap (λ sums. record { key = s.key; sums = sums }) is)

@@ -18,6 +18,7 @@ pub mod WalkSumsLemmas
 pub mod SeenLemmas
 pub mod KeysLemmas
 pub mod KeySumsLemmas
+pub mod OwnLemmas
 pub mod SlotsLemmas
 pub mod StretchLemmas
 pub mod CallsLemmas
