@@ -1,16 +1,14 @@
 -- Amounts that are added one after another, told by their sums for every test.
-use Rattle.std.proofs.Common.{zero, suc, inl, inr, ◌≡◌, ℕ, ◌+◌, ◌<◌, Bool, true, false, nat_eq, if◌then◌else◌, List, [], ◌∷◌, ◌++◌, fold, refl, sym, ap, ◌∙◌, add_assoc, arith}
+use Rattle.std.proofs.Common.{inl, inr, ◌≡◌, ℕ, ◌+◌, ◌<◌, Bool, true, nat_eq, if◌then◌else◌, List, [], ◌∷◌, ◌++◌, fold, refl, sym, ap, ◌∙◌, add_assoc, arith}
 use Rattle.std.specs.declared.cmp.Ordering.{Ordering}
-use Rattle.std.specs.declared.cmp.Ordering.TheVariants.{Less, Equal, Greater}
 use Rattle.std.specs.Cmp.{IsTotalOrder}
 use Rattle.std.specs.List.{AllByRecursion}
 use Rattle.std.specs.List.Sorted.{IsStrictlySortedBy}
 use Rattle.std.specs.Map.{keys_of, values_of}
-use Rattle.std.specs.Ordering.{match_ordering}
-use Rattle.std.proofs.lemmas.Bool.{cases_Bool, eqb-true, ne_eqb}
+use Rattle.std.proofs.lemmas.Bool.{cases_Bool, ne_eqb}
 use Rattle.cost_rows.specs.Merging.{merge, sum_where, TellsApart}
 use Rattle.cost_rows.specs.Stacks.{counts_added}
-use Rattle.cost_rows.proofs.MergeLemmas.{sum-merge, sorted-merge}
+use Rattle.cost_rows.proofs.MergeLemmas.{above-merge, nothing, positive, sum-merge, sorted-merge}
 use Rattle.cost_reports.proofs.SameSums.{same_sums}
 use Rattle.report_texts.specs.Amounts.{amount_of, amounts_by, with_amount}
 
@@ -18,14 +16,6 @@ use Rattle.report_texts.specs.Amounts.{amount_of, amounts_by, with_amount}
 
 pub with_some : {K : Type 0} (cmp : K → K → Ordering) (sums : List (K × ℕ)) (key : K) (n : ℕ) → (n ≡ 0 → ⊥) → with_amount cmp sums key n ≡ merge cmp counts_added sums key n
 with_some cmp sums key n some = rw (ne_eqb n 0 some) refl
-
-nothing : (b : Bool) (n : ℕ) → nat_eq n 0 ≡ true → (if b then n else 0) ≡ 0
-nothing true n h = eqb-true n 0 h
-nothing false n h = refl
-
-positive : (n : ℕ) → nat_eq n 0 ≡ false → 0 < n
-positive zero h = cc
-positive (suc n) h = omega arith
 
 pub no_more : (n : ℕ) → n + 0 ≡ n
 no_more n = omega arith
@@ -72,23 +62,13 @@ module _ {K : Type 0} {cmp : K → K → Ordering} (order : IsTotalOrder cmp) wh
   abbrev Above : List (K × ℕ) → Type 0
   Above sums = AllByRecursion (λ n. 0 < n) (values_of sums)
 
-  above-step : (key : K) (n : ℕ) (e : K × ℕ) (es : List (K × ℕ)) (r : Ordering) → 0 < n → Above (e ∷ es) → Above (merge cmp counts_added es key n)
-      → Above (match_ordering r ((key, n) ∷ e ∷ es) ((e.0, counts_added e.1 n) ∷ es) (e ∷ merge cmp counts_added es key n))
-  above-step key n e es Less some all rest = (some, all)
-  above-step key n e es Equal some all rest = (omega (arith, some), all.1)
-  above-step key n e es Greater some all rest = (all.0, rest)
-
-  above-merge : (es : List (K × ℕ)) (key : K) (n : ℕ) → 0 < n → Above es → Above (merge cmp counts_added es key n)
-  above-merge [] key n some all = (some, tt)
-  above-merge (e ∷ es) key n some all = above-step key n e es (cmp key e.0) some all (above-merge es key n some all.1)
-
   abbrev AreIn : List (K × ℕ) → Type 0
   AreIn sums = IsStrictlySortedBy cmp (keys_of sums) × Above sums
 
   are-with : (sums : List (K × ℕ)) (key : K) (n : ℕ) → AreIn sums → AreIn (with_amount cmp sums key n)
   are-with sums key n are = elim (cases_Bool (nat_eq n 0)) [
     | inl none ↦ rw none are
-    | inr some ↦ rw some (sorted-merge order counts_added sums key n are.0, above-merge sums key n (positive n some) are.1)
+    | inr some ↦ rw some (sorted-merge order counts_added sums key n are.0, above-merge cmp sums key n (positive n some) are.1)
   ]
 
   are-all : (sums amounts : List (K × ℕ)) → AreIn sums → AreIn (fold (λ s (a : K × ℕ). with_amount cmp s a.0 a.1) sums amounts)

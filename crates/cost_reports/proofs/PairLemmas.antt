@@ -1,5 +1,6 @@
 -- What pairs that are added up by place sum to.
-use Rattle.std.proofs.Common.{inl, inr, ◌≡◌, ℕ, ◌+◌, ◌≤◌, zero, suc, Bool, true, false, ◌||◌, List, [], ◌∷◌, Some, refl, ap, ap₂, ◌∙◌, arith}
+use Rattle.std.proofs.Common.{inl, inr, ◌≡◌, ℕ, ◌+◌, ◌≤◌, zero, suc, Bool, true, List, [], ◌∷◌, Some, refl, ap, ap₂, ◌∙◌, arith}
+use Rattle.std.proofs.Math.Bool.{or-false}
 use Rattle.std.specs.List.{list_any}
 use Rattle.std.specs.List.Sorted.{IsStrictlySortedBy}
 use Rattle.std.specs.Map.{lookup, keys_of}
@@ -62,8 +63,4 @@ unfolding IsStrictlySortedBy
 sorted_by amounts = sorted-merge_all named_cmp-total pairs_added [] amounts tt
 
 pub keys_by : (passes : Spot → Bool) (amounts : List (Spot × Pair)) → list_any passes (keys_of (pairs_by amounts)) ≡ list_any passes (keys_of amounts)
-keys_by passes amounts = keys-merge_all named_cmp-apart pairs_added passes [] amounts ∙ or_none (list_any passes (keys_of amounts))
-  where
-    or_none : (b : Bool) → (b || false) ≡ b
-    or_none true = refl
-    or_none false = refl
+keys_by passes amounts = keys-merge_all named_cmp-apart pairs_added passes [] amounts ∙ or-false (list_any passes (keys_of amounts))

@@ -23,3 +23,4 @@ pub mod SlotsLemmas
 pub mod StretchLemmas
 pub mod CallsLemmas
 pub mod StackCountsLemmas
+pub mod KnownLemmas

@@ -1,15 +1,17 @@
 -- What merging keeps: the order of the keys, which keys there are, and each sum.
-use Rattle.std.proofs.Common.{◌≡◌, ℕ, ◌+◌, Bool, true, false, ◌||◌, cond, List, [], ◌∷◌, Option, Some, None, unwrap_or, if◌then◌else◌, refl, sym, ap, ◌∙◌, arith, add_assoc}
+use Rattle.std.proofs.Common.{◌≡◌, ℕ, zero, suc, ◌+◌, ◌<◌, nat_eq, Bool, true, false, ◌||◌, cond, List, [], ◌∷◌, Option, Some, None, unwrap_or, if◌then◌else◌, refl, sym, ap, ◌∙◌, arith, add_assoc}
 use Rattle.std.specs.declared.cmp.Ordering.{Ordering}
 use Rattle.std.specs.declared.cmp.Ordering.TheVariants.{Less, Equal, Greater}
 use Rattle.std.specs.Cmp.{IsTotalOrder}
 use Rattle.std.specs.Ordering.{match_ordering, is_eq, ordering_reverse}
 use Rattle.std.specs.List.{list_any, AllByRecursion}
 use Rattle.std.specs.List.Sorted.{IsStrictlySortedBy}
-use Rattle.std.specs.Map.{lookup, keys_of, set_value}
+use Rattle.std.specs.Map.{lookup, keys_of, values_of, set_value}
 use Rattle.std.specs.BTreeMap.{BTreeMap, is_at, insert_entry, WritesThrough}
+use Rattle.std.proofs.lemmas.Bool.{eqb-true}
 use Rattle.std.proofs.lemmas.Map.Keys.{sorted_head, sorted_tail}
 use Rattle.cost_rows.specs.Merging.{merge, merge_all, sum_where, TellsApart}
+use Rattle.cost_rows.specs.Stacks.{counts_added}
 
 -- ---- sums
 
@@ -44,6 +46,28 @@ module _ {K X : Type 0} {cmp : K → K → Ordering} (exact : TellsApart cmp) (a
       sum-merge_all (merge cmp add entries a.0 a.1) amounts
       ∙ ap (λ n. n + sum_where passes measure amounts) (sum-merge entries a.0 a.1)
       ∙ add_assoc (sum_where passes measure entries) (counts a.0 a.1) (sum_where passes measure amounts)
+
+-- ---- amounts above 0
+
+-- an amount of 0 counts for nothing
+pub nothing : (b : Bool) (n : ℕ) → nat_eq n 0 ≡ true → (if b then n else 0) ≡ 0
+nothing true n h = eqb-true n 0 h
+nothing false n h = refl
+
+pub positive : (n : ℕ) → nat_eq n 0 ≡ false → 0 < n
+positive zero h = cc
+positive (suc n) h = omega arith
+
+above-step : {K : Type 0} (cmp : K → K → Ordering) (key : K) (n : ℕ) (e : K × ℕ) (es : List (K × ℕ)) (r : Ordering) → 0 < n → AllByRecursion (λ m. 0 < m) (values_of (e ∷ es)) → AllByRecursion (λ m. 0 < m) (values_of (merge cmp counts_added es key n))
+    → AllByRecursion (λ m. 0 < m) (values_of (match_ordering r ((key, n) ∷ e ∷ es) ((e.0, counts_added e.1 n) ∷ es) (e ∷ merge cmp counts_added es key n)))
+above-step cmp key n e es Less some all rest = (some, all)
+above-step cmp key n e es Equal some all rest = (omega (arith, some), all.1)
+above-step cmp key n e es Greater some all rest = (all.0, rest)
+
+-- one that is merged leaves each sum above 0
+pub above-merge : {K : Type 0} (cmp : K → K → Ordering) (es : List (K × ℕ)) (key : K) (n : ℕ) → 0 < n → AllByRecursion (λ m. 0 < m) (values_of es) → AllByRecursion (λ m. 0 < m) (values_of (merge cmp counts_added es key n))
+above-merge cmp [] key n some all = (some, tt)
+above-merge cmp (e ∷ es) key n some all = above-step cmp key n e es (cmp key e.0) some all (above-merge cmp es key n some all.1)
 
 -- ---- keys
 

@@ -13,6 +13,7 @@ use Rattle.std.specs.declared.vec.Vec.{Vec}
 use Rattle.std.proofs.lemmas.Bool.{cases_Bool, and_from, not_from_false, or_parts, or_from}
 use Rattle.std.proofs.lemmas.List.{take-append-drop}
 use Rattle.std.proofs.lemmas.Map.Lookups.{exact_bytes}
+use Rattle.std.proofs.lemmas.Map.Views.{tells_apart}
 use Rattle.std.proofs.lemmas.Map.Text.{is_eq-slice_cmp}
 use Rattle.cg_text.specs.Distinct.{are_distinct}
 use Rattle.cost_rows.specs.Hashes.{hash_of}
@@ -49,9 +50,6 @@ module _ {K X : Type 0} (R : K → K → Ordering) (test : K → Bool) (alike : 
 abbrev pub by_bytes : {Z : Type 0} → Vec ℕ Z → Vec ℕ Z → Ordering
 by_bytes x y = slice_cmp nat_cmp x.items y.items
 
-pub equal-bytes : (a b : List ℕ) → is_eq (slice_cmp nat_cmp a b) ≡ true → a ≡ b
-equal-bytes a b h = same_bytes a b (sym (is_eq-slice_cmp a b) ∙ h)
-
 bytes-equal : (a b : List ℕ) → a ≡ b → slice_cmp nat_cmp a b ≡ Equal
 bytes-equal a b e = (Equal-is (slice_cmp nat_cmp a b)).0 (is_eq-slice_cmp a b ∙ bytes-same a b e)
 
@@ -62,7 +60,7 @@ found-by-name others more key n name entries =
     ap (lookup (λ k. is_eq (slice_cmp nat_cmp name k.items))) entries
     ∙ lookup-insert_entry by_bytes (λ k. is_eq (slice_cmp nat_cmp name k.items))
     (λ x y equal. ap (λ b. is_eq (slice_cmp nat_cmp name b)) (exact_bytes x.items y.items equal))
-    (λ x y one two. bytes-equal x.items y.items (sym (equal-bytes name x.items one) ∙ equal-bytes name y.items two))
+    (λ x y one two. bytes-equal x.items y.items (sym (tells_apart exact_bytes name x.items one) ∙ tells_apart exact_bytes name y.items two))
     key n others.entries
 
 -- ---- places in lists

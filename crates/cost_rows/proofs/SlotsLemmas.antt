@@ -1,14 +1,13 @@
 -- Sums in slots: what is done in a slot is done to the sum of its key.
-use Rattle.std.proofs.Common.{inl, inr, ◌≡◌, ◌≢◌, ℕ, ◌+◌, ◌<◌, ◌≤◌, Bool, true, false, cond, List, [], ◌∷◌, ◌++◌, length, Some, None, option_map, slice_index, slice_index_or, slice_set, refl, sym, ap, subst, ◌∙◌, arith}
+use Rattle.std.proofs.Common.{inl, inr, ◌≡◌, ◌≢◌, ℕ, ◌+◌, ◌<◌, ◌≤◌, Bool, cond, List, [], ◌∷◌, ◌++◌, length, Some, None, option_map, slice_index, slice_index_or, slice_set, sym, ap, subst, ◌∙◌, arith}
 use Rattle.std.specs.declared.cmp.Ordering.{Ordering}
-use Rattle.std.specs.declared.cmp.Ordering.TheVariants.{Less, Equal, Greater}
-use Rattle.std.specs.Cmp.{IsTotalOrder}
-use Rattle.std.specs.Ordering.{match_ordering, is_eq}
+use Rattle.std.specs.Cmp.{IsTotalOrder, Equal-is}
+use Rattle.std.specs.Ordering.{is_eq}
 use Rattle.std.specs.List.Sorted.{IsStrictlySortedBy}
 use Rattle.std.specs.Map.{lookup, keys_of, set_value, remove_entry}
 use Rattle.std.specs.BTreeMap.{is_at, insert_entry}
 use Rattle.std.proofs.lemmas.Bool.{cases_Bool}
-use Rattle.std.proofs.lemmas.Cmp.{tied_itself}
+use Rattle.std.proofs.lemmas.Cmp.{alike_right, tied_itself}
 use Rattle.std.proofs.lemmas.List.{get_or-set_same, get_or-set_other, get_or_append_left, get_or_push, length_push}
 use Rattle.std.proofs.lemmas.List.Elements.{All-nil}
 use Rattle.std.proofs.lemmas.Map.Made.{lookup-map_values}
@@ -17,39 +16,9 @@ use Rattle.cost_rows.specs.Own.{valued}
 use Rattle.cost_rows.specs.Slots.{Slotted, with_sums, sums_in, AreSlotsBy, Differ}
 use Rattle.cost_rows.specs.Stacks.{counts_added}
 use Rattle.cost_rows.proofs.MergeLemmas.{merge-new, merge-held}
+use Rattle.cost_rows.proofs.NumberedLemmas.{lookup-insert_entry}
 use Rattle.cost_rows.proofs.OwnLemmas.{of_found, sorted-valued, insert-valued, valued-same, own-written, own-put, own-removed}
 use Rattle.cost_rows.proofs.SeenLemmas.{held-least}
-
--- ---- look-ups after a new key
-
-module _ {K X : Type 0} (cmp : K → K → Ordering) where
-  here-step : (key : K) (v : X) (e : K × X) (es : List (K × X)) (r : Ordering) → is_eq (cmp key key) ≡ true → cmp key e.0 ≡ r → lookup (is_at (cmp key)) (insert_entry cmp es key v) ≡ Some v
-      → lookup (is_at (cmp key)) (match_ordering r ((key, v) ∷ e ∷ es) ((e.0, v) ∷ es) (e ∷ insert_entry cmp es key v)) ≡ Some v
-  here-step key v e es Less same is rest = rw same refl
-  here-step key v e es Equal same is rest = rw is refl
-  here-step key v e es Greater same is rest = rw is rest
-
-  -- a new key is found
-  pub lookup-new : (key : K) (v : X) (es : List (K × X)) → is_eq (cmp key key) ≡ true → lookup (is_at (cmp key)) (insert_entry cmp es key v) ≡ Some v
-  lookup-new key v [] same = rw same refl
-  lookup-new key v (e ∷ es) same = here-step key v e es (cmp key e.0) same refl (lookup-new key v es same)
-
-  other-step : (key q : K) (v : X) (e : K × X) (es : List (K × X)) (r : Ordering) → is_eq (cmp q key) ≡ false → cmp key e.0 ≡ r → cond (is_eq r) (Some e.1) (lookup (is_at (cmp key)) es) ≡ None
-      → lookup (is_at (cmp q)) (insert_entry cmp es key v) ≡ lookup (is_at (cmp q)) es
-      → lookup (is_at (cmp q)) (match_ordering r ((key, v) ∷ e ∷ es) ((e.0, v) ∷ es) (e ∷ insert_entry cmp es key v)) ≡ lookup (is_at (cmp q)) (e ∷ es)
-  other-step key q v e es Less other is none rest = rw other refl
-  other-step key q v e es Equal other is none rest = absurd (cc)
-  other-step key q v e es Greater other is none rest = ap (cond (is_eq (cmp q e.0)) (Some e.1)) rest
-
-  absent-further : (key : K) (e : K × X) (es : List (K × X)) (b : Bool) → cond b (Some e.1) (lookup (is_at (cmp key)) es) ≡ None → lookup (is_at (cmp key)) es ≡ None
-  absent-further key e es true none = absurd (cc)
-  absent-further key e es false none = none
-
-  -- and other keys as before
-  pub lookup-other : (key q : K) (v : X) (es : List (K × X)) → is_eq (cmp q key) ≡ false → lookup (is_at (cmp key)) es ≡ None → lookup (is_at (cmp q)) (insert_entry cmp es key v) ≡ lookup (is_at (cmp q)) es
-  lookup-other key q v [] other none = rw other refl
-  lookup-other key q v (e ∷ es) other none =
-      other-step key q v e es (cmp key e.0) other refl none (lookup-other key q v es other (absent-further key e es (is_eq (cmp key e.0)) none))
 
 -- ---- slots of keys
 
@@ -138,24 +107,25 @@ module _ {K : Type 0} (cmp : K → K → Ordering) (total : IsTotalOrder cmp) wh
       slot-new cmp 0 sums more es new key slot cost are last pushed put
       ∙ merge-new total counts_added (with_sums sums es) key cost (slot-absent cmp 0 sums es key absent)
 
-  equal-from : (r : Ordering) → is_eq r ≡ true → r ≡ Equal
-  equal-from Less is = absurd (cc)
-  equal-from Equal is = refl
-  equal-from Greater is = absurd (cc)
+  -- what is found after a new key came in
+  lookup-put : (es : List (K × ℕ)) (key q : K) (slot : ℕ) → lookup (is_at (cmp q)) (insert_entry cmp es key slot) ≡ cond (is_eq (cmp q key)) (Some slot) (lookup (is_at (cmp q)) es)
+  lookup-put es key q slot =
+      lookup-insert_entry cmp (is_at (cmp q)) (λ x y same. ap is_eq (alike_right total x y q same))
+      (λ x y one two. sym (total.congr q x y ((Equal-is (cmp q x)).0 one)) ∙ (Equal-is (cmp q y)).0 two) key slot es
 
   -- the key has the slot
   pub put-found : (es new : List (K × ℕ)) (key : K) (slot : ℕ) → new ≡ insert_entry cmp es key slot → lookup (is_at (cmp key)) new ≡ Some slot
   put-found es new key slot put =
-      ap (lookup (is_at (cmp key))) put ∙ lookup-new cmp key slot es (ap is_eq (tied_itself total key))
+      ap (lookup (is_at (cmp key))) put ∙ lookup-put es key key slot
+      ∙ ap (λ r. cond (is_eq r) (Some slot) (lookup (is_at (cmp key)) es)) (tied_itself total key)
 
   -- and the other keys have theirs
   pub put-keeps : TellsApart cmp → (es new : List (K × ℕ)) (key : K) (slot : ℕ) → lookup (is_at (cmp key)) es ≡ None → new ≡ insert_entry cmp es key slot
       → (q : K) (n : ℕ) → lookup (is_at (cmp q)) es ≡ Some n → lookup (is_at (cmp q)) new ≡ Some n
   put-keeps exact es new key slot absent put q n found = elim (cases_Bool (is_eq (cmp q key))) [
     | inl same ↦
-        let is : q ≡ key = exact q key (equal-from (cmp q key) same) in
-        let none : lookup (is_at (cmp q)) es ≡ None = ap (λ p. lookup (is_at (cmp p)) es) is ∙ absent in
-        let clash : Some n ≡ None = sym found ∙ none in
+        let is : q ≡ key = exact q key ((Equal-is (cmp q key)).0 same) in
+        let clash : Some n ≡ None = sym found ∙ ap (λ p. lookup (is_at (cmp p)) es) is ∙ absent in
         absurd (cc)
-    | inr other ↦ ap (lookup (is_at (cmp q))) put ∙ lookup-other cmp key q slot es other absent ∙ found
+    | inr other ↦ ap (lookup (is_at (cmp q))) put ∙ lookup-put es key q slot ∙ ap (λ b. cond b (Some slot) (lookup (is_at (cmp q)) es)) other ∙ found
   ]

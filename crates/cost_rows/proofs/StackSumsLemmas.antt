@@ -2,18 +2,13 @@
 use Rattle.std.proofs.Common.{◌≡◌, ℕ, ◌+◌, suc, Bool, true, false, List, [], ◌∷◌, fold, slice_index, if◌then◌else◌, refl, ap, ◌∙◌, add_assoc}
 use Rattle.profile_records.specs.Stacks.{Seen}
 use Rattle.cost_rows.specs.Content.{Content, empty, leaf_cost, with_stack}
-use Rattle.cost_rows.specs.Merging.{TellsApart}
-use Rattle.cost_rows.specs.Stacks.{bytes_cmp, counts_added}
+use Rattle.cost_rows.specs.Stacks.{counts_added}
 use Rattle.cost_rows.specs.Sums.{Spot, spot_of, cells_where, stacks_where}
 use Rattle.cost_rows.specs.StackSums.{leaf_sum, frames_sum, content_of_stacks, SumsToStacks}
-use Rattle.std.specs.Ordering.{is_eq}
+use Rattle.std.proofs.lemmas.Map.Lookups.{exact_bytes}
 use Rattle.cost_rows.proofs.MergeLemmas.{sum-merge}
-use Rattle.cost_rows.proofs.NumberedLemmas.{equal-bytes}
 use Rattle.cost_rows.specs.Held.{AreHeld}
 use Rattle.cost_rows.proofs.SumsLemmas.{held-cost, cells-cost, none_held, plus_none, none_plus}
-
-bytes_cmp-apart : TellsApart bytes_cmp
-bytes_cmp-apart x y h = equal-bytes x y (ap is_eq h)
 
 held-stack : (c : Content) (s : Seen) → AreHeld c → AreHeld (with_stack c s)
 held-stack c s held = let is = held-cost c (leaf_cost s) held in record { cells = is.cells; calls = is.calls }
@@ -58,7 +53,7 @@ law-frames : (passes : List ℕ → Bool) (seen : List Seen) (c : Content) → s
 law-frames passes [] c = plus_none _
 law-frames passes (s ∷ seen) c =
     law-frames passes seen (with_stack c s)
-    ∙ ap (λ n. n + frames_sum passes seen) (sum-merge bytes_cmp-apart counts_added passes (λ count. count) (λ x y. refl) c.stacks s.stack.frames s.stack.count)
+    ∙ ap (λ n. n + frames_sum passes seen) (sum-merge exact_bytes counts_added passes (λ count. count) (λ x y. refl) c.stacks s.stack.frames s.stack.count)
     ∙ add_assoc (stacks_where passes c) (if passes s.stack.frames then s.stack.count else 0) (frames_sum passes seen)
 
 no_calls : (seen : List Seen) (c : Content) → (fold with_stack c seen).calls ≡ c.calls

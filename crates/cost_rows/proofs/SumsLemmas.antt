@@ -1,5 +1,6 @@
 -- The rows of merged records sum to what the records sum to.
 use Rattle.std.proofs.Common.{◌≡◌, ℕ, ◌+◌, ◌<◌, ◌≤◌, zero, suc, Bool, true, false, ◌||◌, List, [], ◌∷◌, ◌++◌, length, fold, slice_index, Some, unwrap_or, if◌then◌else◌, refl, sym, ap, ap₂, ◌∙◌, subst, arith, add_assoc, length-append}
+use Rattle.std.proofs.Math.Bool.{or-false}
 use Rattle.std.specs.declared.cmp.Ordering.{Ordering}
 use Rattle.std.specs.declared.cmp.Ordering.TheVariants.{Less, Equal, Greater}
 use Rattle.std.specs.Ordering.{match_ordering}
@@ -253,10 +254,6 @@ law-edges passes f adds (Called callee cost ∷ records) c held =
     ∙ ap (λ n. n + edge_sum f passes records) (edges-call passes f adds c callee cost held)
     ∙ add_assoc (sum_where (passing_call passes c.names) f c.calls) (if passes (caller_spot cost) (callee_spot callee) then f (calls_of callee cost) else 0) (edge_sum f passes records)
 
-or_none : (b : Bool) → b ≡ b || false
-or_none true = refl
-or_none false = refl
-
 turned : (a b d : Bool) → (a || b) || d ≡ b || (a || d)
 turned true true d = refl
 turned true false d = refl
@@ -264,7 +261,7 @@ turned false true d = refl
 turned false false d = refl
 
 law-called : (passes : Spot → Spot → Bool) (records : List Record) (c : Content) → AreHeld c → has_edge passes (fold with_record c records) ≡ has_edge passes c || has_call passes records
-law-called passes [] c held = or_none (has_edge passes c)
+law-called passes [] c held = sym (or-false (has_edge passes c))
 law-called passes (Own cost ∷ records) c held =
     law-called passes records (with_cost c cost) (held-cost c cost held)
     ∙ ap (λ b. b || has_call passes records) (has-kept passes c.names (names_with_cost cost c.names) c.calls (grows-three c.names cost.object cost.file cost.function) held.calls)

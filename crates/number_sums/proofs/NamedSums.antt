@@ -1,6 +1,6 @@
 -- Sums by number, named at the end, are those of the rows that are named first.
-use Rattle.std.proofs.Common.{inl, inr, ◌≡◌, ℕ, ◌+◌, Bool, true, false, List, [], ◌∷◌, fold, map, nat_eq, if◌then◌else◌, refl, sym, ap, ap₂, ◌∙◌, add_assoc, arith}
-use Rattle.std.proofs.lemmas.Bool.{cases_Bool, eqb-true}
+use Rattle.std.proofs.Common.{inl, inr, ◌≡◌, ℕ, ◌+◌, Bool, List, [], ◌∷◌, fold, map, nat_eq, if◌then◌else◌, refl, sym, ap, ap₂, ◌∙◌, add_assoc, arith}
+use Rattle.std.proofs.lemmas.Bool.{cases_Bool}
 use Rattle.cost_rows.specs.Keys.{part_of, place_of_row}
 use Rattle.cost_rows.specs.KeySums.{cost_where, sums_by}
 use Rattle.cost_rows.specs.Merging.{sum_where}
@@ -9,7 +9,7 @@ use Rattle.cost_rows.specs.Sums.{Spot}
 use Rattle.cost_rows.specs.declared.keys.Key.{Key}
 use Rattle.cost_rows.specs.declared.keys.Key.TheVariants.{Object, File, Function, Line, Thread}
 use Rattle.cost_rows.specs.declared.rows.CellRow.{CellRow}
-use Rattle.cost_rows.proofs.MergeLemmas.{sum-merge}
+use Rattle.cost_rows.proofs.MergeLemmas.{nothing, sum-merge}
 use Rattle.plain_tables.specs.Tables.{NameRow}
 use Rattle.run_stores.specs.Names.{named_cell}
 use Rattle.number_sums.specs.Sums.{SumsByNumber, number_row, number_rows, numbers_part, with_number}
@@ -46,10 +46,6 @@ row_keeps_key s row = elim (cases_Bool (nat_eq row.cost 0)) [
 pub rows_keep_key : (rows : List (CellRow ℕ)) (s : SumsByNumber) → (fold with_number s rows).key ≡ s.key
 rows_keep_key [] s = refl
 rows_keep_key (row ∷ rows) s = rows_keep_key rows (with_number s row) ∙ row_keeps_key s row
-
-nothing : (b : Bool) (cost : ℕ) → nat_eq cost 0 ≡ true → (if b then cost else 0) ≡ 0
-nothing true cost h = eqb-true cost 0 h
-nothing false cost h = refl
 
 sum_row : (test : NumberPart → Bool) (s : SumsByNumber) (row : CellRow ℕ)
     → sum_where test (λ n. n) (with_number s row).sums ≡ sum_where test (λ n. n) s.sums + (if test (numbers_part s.key row) then row.cost else 0)
