@@ -1,5 +1,6 @@
 -- Amounts that are added one after another, told by their sums for every test.
 use Rattle.std.proofs.Common.{inl, inr, ◌≡◌, ℕ, ◌+◌, ◌<◌, Bool, true, nat_eq, if◌then◌else◌, List, [], ◌∷◌, ◌++◌, fold, refl, sym, ap, ◌∙◌, add_assoc, arith}
+use Rattle.std.proofs.Math.Nat.{add-zero, zero-add}
 use Rattle.std.specs.declared.cmp.Ordering.{Ordering}
 use Rattle.std.specs.Cmp.{IsTotalOrder}
 use Rattle.std.specs.List.{AllByRecursion}
@@ -17,12 +18,6 @@ use Rattle.report_texts.specs.Amounts.{amount_of, amounts_by, with_amount}
 pub with_some : {K : Type 0} (cmp : K → K → Ordering) (sums : List (K × ℕ)) (key : K) (n : ℕ) → (n ≡ 0 → ⊥) → with_amount cmp sums key n ≡ merge cmp counts_added sums key n
 with_some cmp sums key n some = rw (ne_eqb n 0 some) refl
 
-pub no_more : (n : ℕ) → n + 0 ≡ n
-no_more n = omega arith
-
-pub none_before : (n : ℕ) → 0 + n ≡ n
-none_before n = omega arith
-
 module _ {K : Type 0} {cmp : K → K → Ordering} (exact : TellsApart cmp) where
   pub amount-merge : (sums : List (K × ℕ)) (key : K) (n : ℕ) → amount_of (merge cmp counts_added sums key n) ≡ amount_of sums + n
   amount-merge sums key n = sum-merge exact counts_added (λ _. true) (λ n. n) (λ x y. refl) sums key n
@@ -38,20 +33,20 @@ module _ {K : Type 0} {cmp : K → K → Ordering} (exact : TellsApart cmp) wher
     ]
 
     pub sum-all : (sums amounts : List (K × ℕ)) → sum (fold (λ s (a : K × ℕ). with_amount cmp s a.0 a.1) sums amounts) ≡ sum sums + sum amounts
-    sum-all sums [] = sym (no_more (sum sums))
+    sum-all sums [] = sym (add-zero (sum sums))
     sum-all sums (a ∷ amounts) =
         sum-all (with_amount cmp sums a.0 a.1) amounts
         ∙ ap (λ n. n + sum amounts) (sum-with sums a.0 a.1)
         ∙ add_assoc (sum sums) (if passes a.0 then a.1 else 0) (sum amounts)
 
     pub sum-by : (amounts : List (K × ℕ)) → sum (amounts_by cmp amounts) ≡ sum amounts
-    sum-by amounts = sum-all [] amounts ∙ none_before (sum amounts)
+    sum-by amounts = sum-all [] amounts ∙ zero-add (sum amounts)
 
   pub amount-with : (sums : List (K × ℕ)) (key : K) (n : ℕ) → amount_of (with_amount cmp sums key n) ≡ amount_of sums + n
   amount-with sums key n = sum-with (λ _. true) sums key n
 
 pub sum-append : {K : Type 0} (passes : K → Bool) (xs ys : List (K × ℕ)) → sum_where passes (λ n. n) (xs ++ ys) ≡ sum_where passes (λ n. n) xs + sum_where passes (λ n. n) ys
-sum-append passes [] ys = sym (none_before (sum_where passes (λ n. n) ys))
+sum-append passes [] ys = sym (zero-add (sum_where passes (λ n. n) ys))
 sum-append passes (x ∷ xs) ys =
     let here : ℕ = if passes x.0 then x.1 else 0 in
     ap (λ n. here + n) (sum-append passes xs ys) ∙ sym (add_assoc here (sum_where passes (λ n. n) xs) (sum_where passes (λ n. n) ys))

@@ -1,12 +1,13 @@
 -- A file is known by the rows that were added exactly where it is by its records.
 use Rattle.std.proofs.Common.{◌≡◌, ℕ, Bool, true, false, ◌||◌, bytes_eq, if◌then◌else◌, List, [], ◌∷◌, map, fold, refl, sym, ap, ap₂, ◌∙◌}
+use Rattle.std.proofs.lemmas.Bool.{or_right}
 use Rattle.std.proofs.Math.Bool.{or-false, or_assoc}
 use Rattle.std.specs.List.{list_any}
 use Rattle.std.specs.Ordering.{nat_cmp}
 use Rattle.std.proofs.lemmas.List.Folds.{list_any-append}
 use Rattle.cost_rows.specs.Sums.{Spot}
 use Rattle.cost_rows.specs.declared.rows.CellRow.{CellRow}
-use Rattle.cost_rows.proofs.KnownLemmas.{cells_know, or_second}
+use Rattle.cost_rows.proofs.KnownLemmas.{cells_know}
 use Rattle.report_texts.specs.Costs.{EventCells, EventRecords, StandForEach, all_rows, weighted}
 use Rattle.report_texts.specs.Amounts.{with_amount}
 use Rattle.report_texts.specs.Annotations.{FileCosts, HaveCostsEach, know_file, no_lines, with_line}
@@ -22,7 +23,7 @@ module _ (file : List ℕ) where
 
   known-step : (held : FileCosts) (row : CellRow (List ℕ)) (b : Bool)
       → (if b then record { file = held.file; known = true; costs = with_amount nat_cmp held.costs row.line row.cost } else held).known ≡ held.known || b
-  known-step held row true = sym (or_second held.known true refl)
+  known-step held row true = sym (or_right held.known true refl)
   known-step held row false = sym (or-false held.known)
 
   file-step : (held : FileCosts) (row : CellRow (List ℕ)) → (with_line held row).file ≡ held.file

@@ -1,5 +1,6 @@
 -- What pairs that are added up by place sum to.
-use Rattle.std.proofs.Common.{inl, inr, ◌≡◌, ℕ, ◌+◌, ◌≤◌, zero, suc, Bool, true, List, [], ◌∷◌, Some, refl, ap, ap₂, ◌∙◌, arith}
+use Rattle.std.proofs.Common.{inl, inr, ◌≡◌, ℕ, ◌≤◌, zero, suc, Bool, true, List, [], ◌∷◌, Some, refl, ap, ap₂, ◌∙◌, arith}
+use Rattle.std.proofs.Math.Nat.{zero-add}
 use Rattle.std.proofs.Math.Bool.{or-false}
 use Rattle.std.specs.List.{list_any}
 use Rattle.std.specs.List.Sorted.{IsStrictlySortedBy}
@@ -45,17 +46,14 @@ pair_least measure test (e ∷ es) held found = elim (cases_Bool (test e.0)) [
       omega (arith, least)
 ]
 
-none_before : (n : ℕ) → 0 + n ≡ n
-none_before n = omega arith
-
 -- sums by place are those of what was added, for every test of places
 pub firsts_by : (passes : Spot → Bool) (amounts : List (Spot × Pair)) → sum_where passes (λ (p : Pair). p.first) (pairs_by amounts) ≡ sum_where passes (λ (p : Pair). p.first) amounts
 firsts_by passes amounts =
-    sum-merge_all named_cmp-apart pairs_added passes (λ (p : Pair). p.first) (λ x y. refl) [] amounts ∙ none_before (sum_where passes (λ (p : Pair). p.first) amounts)
+    sum-merge_all named_cmp-apart pairs_added passes (λ (p : Pair). p.first) (λ x y. refl) [] amounts ∙ zero-add (sum_where passes (λ (p : Pair). p.first) amounts)
 
 pub seconds_by : (passes : Spot → Bool) (amounts : List (Spot × Pair)) → sum_where passes (λ (p : Pair). p.second) (pairs_by amounts) ≡ sum_where passes (λ (p : Pair). p.second) amounts
 seconds_by passes amounts =
-    sum-merge_all named_cmp-apart pairs_added passes (λ (p : Pair). p.second) (λ x y. refl) [] amounts ∙ none_before (sum_where passes (λ (p : Pair). p.second) amounts)
+    sum-merge_all named_cmp-apart pairs_added passes (λ (p : Pair). p.second) (λ x y. refl) [] amounts ∙ zero-add (sum_where passes (λ (p : Pair). p.second) amounts)
 
 -- each place stands once, in order
 pub sorted_by : (amounts : List (Spot × Pair)) → IsStrictlySortedBy named_cmp (keys_of (pairs_by amounts))

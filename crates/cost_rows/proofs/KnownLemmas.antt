@@ -1,34 +1,13 @@
 -- Rows whose costs sum to those of records are at the places where records cost something.
 use Rattle.std.proofs.Common.{zero, suc, ◌≡◌, ℕ, ◌+◌, ◌<◌, Bool, true, false, ◌&&◌, ◌||◌, ◌==◌, nat_lt, if◌then◌else◌, List, [], ◌∷◌, slice_index, refl, sym, subst, arith}
 use Rattle.std.specs.List.{list_any}
-use Rattle.std.proofs.lemmas.Bool.Decides.{nat_tests}
+use Rattle.std.proofs.lemmas.Bool.{and_from, eq-eqb, lt-ltb, ltb-true, or_left, or_right}
 use Rattle.profile_records.specs.Records.{Record, Own, Called}
 use Rattle.cost_rows.specs.Keys.{place_of_row}
 use Rattle.cost_rows.specs.Sums.{Spot, spot_of, costs_at, self_sum}
 use Rattle.cost_rows.specs.Walks.{HaveCosts}
 use Rattle.cost_rows.specs.WalkSums.{rows_cost}
 use Rattle.cost_rows.specs.declared.rows.CellRow.{CellRow}
-
-pub above_is : (n : ℕ) → 0 < n → nat_lt 0 n ≡ true
-above_is n low = grind (arith, nat_tests)
-
-pub is_above : (n : ℕ) → nat_lt 0 n ≡ true → 0 < n
-is_above n is = grind (arith, nat_tests)
-
-same_number : (n : ℕ) → (n == n) ≡ true
-same_number n = grind (arith, nat_tests)
-
-pub or_first : (a b : Bool) → a ≡ true → a || b ≡ true
-or_first true b is = refl
-or_first false b is = absurd cc
-
-pub or_second : (a b : Bool) → b ≡ true → a || b ≡ true
-or_second true b is = refl
-or_second false b is = is
-
-pub both_true : (a b : Bool) → a ≡ true → b ≡ true → a && b ≡ true
-both_true true b one two = two
-both_true false b one two = absurd cc
 
 pub same_tests : (a b : Bool) → (a ≡ true → b ≡ true) → (b ≡ true → a ≡ true) → a ≡ b
 same_tests true b there back = sym (there refl)
@@ -42,13 +21,13 @@ some_cost [] is = absurd cc
 some_cost (cost ∷ costs) is = go (nat_lt 0 cost) refl is (some_cost costs)
   where
     go : (b : Bool) → nat_lt 0 cost ≡ b → b || list_any (nat_lt 0) costs ≡ true → (list_any (nat_lt 0) costs ≡ true → (k : ℕ) × (0 < slice_index costs k)) → (k : ℕ) × (0 < slice_index (cost ∷ costs) k)
-    go true here any rest = (0, is_above cost here)
+    go true here any rest = (0, ltb-true 0 cost here)
     go false here any rest = let later = rest any in (suc later.0, later.1)
 
 cost_there : (costs : List ℕ) (k : ℕ) → 0 < slice_index costs k → list_any (nat_lt 0) costs ≡ true
 cost_there [] k low = absurd (let n : ℕ = 0 in omega (arith, low))
-cost_there (cost ∷ costs) zero low = or_first (nat_lt 0 cost) (list_any (nat_lt 0) costs) (above_is cost low)
-cost_there (cost ∷ costs) (suc k) low = or_second (nat_lt 0 cost) (list_any (nat_lt 0) costs) (cost_there costs k low)
+cost_there (cost ∷ costs) zero low = or_left (nat_lt 0 cost) (list_any (nat_lt 0) costs) (lt-ltb 0 cost low)
+cost_there (cost ∷ costs) (suc k) low = or_right (nat_lt 0 cost) (list_any (nat_lt 0) costs) (cost_there costs k low)
 
 module _ (passes : Spot → Bool) where
   abbrev in_row : CellRow (List ℕ) → Bool
@@ -60,9 +39,9 @@ module _ (passes : Spot → Bool) where
     where
       go : (b : Bool) (n : ℕ) → passes (spot_of cost) ≡ b → (0 < n → list_any (nat_lt 0) cost.costs ≡ true) → 0 < (if b then n else 0) + self_sum passes k records
           → (0 < self_sum passes k records → list_any (costs_at passes) records ≡ true) → costs_at passes (Own cost) || list_any (costs_at passes) records ≡ true
-      go true zero here any low rest = or_second _ _ (rest (omega (arith, low)))
-      go true (suc n) here any low rest = or_first _ _ (both_true _ _ here (any (omega arith)))
-      go false n here any low rest = or_second _ _ (rest (omega (arith, low)))
+      go true zero here any low rest = or_right _ _ (rest (omega (arith, low)))
+      go true (suc n) here any low rest = or_left _ _ (and_from _ _ here (any (omega arith)))
+      go false n here any low rest = or_right _ _ (rest (omega (arith, low)))
   self_positive k (Called callee cost ∷ records) low = self_positive k records low
 
   self_there : (records : List Record) → list_any (costs_at passes) records ≡ true → (k : ℕ) × (0 < self_sum passes k records)
@@ -97,7 +76,7 @@ module _ (passes : Spot → Bool) where
       low = above.0
 
       go : (b : Bool) → passes (place_of_row r) ≡ b → b || list_any in_row cells ≡ true → (list_any in_row cells ≡ true → (k : ℕ) × (0 < rows_cost passes k cells)) → (k : ℕ) × (0 < rows_cost passes k (r ∷ cells))
-      go true here any rest = (r.event, subst (λ b. 0 < (if b then r.cost else 0) + rows_cost passes r.event cells) (sym (both_true _ _ here (same_number r.event))) (omega (arith, low)))
+      go true here any rest = (r.event, subst (λ b. 0 < (if b then r.cost else 0) + rows_cost passes r.event cells) (sym (and_from _ _ here (eq-eqb r.event r.event refl))) (omega (arith, low)))
       go false here any rest = let later = rest any in let some = later.1 in (later.0, omega (arith, some))
 
   -- for a test of places

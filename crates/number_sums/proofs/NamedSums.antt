@@ -1,5 +1,6 @@
 -- Sums by number, named at the end, are those of the rows that are named first.
 use Rattle.std.proofs.Common.{inl, inr, ◌≡◌, ℕ, ◌+◌, Bool, List, [], ◌∷◌, fold, map, nat_eq, if◌then◌else◌, refl, sym, ap, ap₂, ◌∙◌, add_assoc, arith}
+use Rattle.std.proofs.Math.Nat.{zero-add}
 use Rattle.std.proofs.lemmas.Bool.{cases_Bool}
 use Rattle.cost_rows.specs.Keys.{part_of, place_of_row}
 use Rattle.cost_rows.specs.KeySums.{cost_where, sums_by}
@@ -76,13 +77,10 @@ sum_rows names key passes (row ∷ rows) s is =
     ∙ ap (λ p. (before + (if passes p then row.cost else 0)) + more) (part_named names key row)
     ∙ add_assoc before (if passes (part_of key (place_of_row (named_cell names row))) then row.cost else 0) more
 
-none_before : (n : ℕ) → 0 + n ≡ n
-none_before n = omega arith
-
 -- the sums of rows, named at the end
 pub named_at_the_end : (names : List NameRow) (key : Key) (rows : List (CellRow ℕ))
     → sums_by key (map (named_cell names) (number_rows (fold with_number (record { key = key; sums = [] }) rows).sums)) ≡ sums_by key (map (named_cell names) rows)
 named_at_the_end names key rows =
     let sums = (fold with_number (record { key = key; sums = [] }) rows).sums in
     same_by_key key (map (named_cell names) (number_rows sums)) (map (named_cell names) rows) (λ passes.
-    rows_cost names key passes sums ∙ sum_rows names key passes rows (record { key = key; sums = [] }) refl ∙ none_before (cost_where key passes (map (named_cell names) rows)))
+    rows_cost names key passes sums ∙ sum_rows names key passes rows (record { key = key; sums = [] }) refl ∙ zero-add (cost_where key passes (map (named_cell names) rows)))

@@ -1,9 +1,9 @@
 -- The calls of a function over runs are those of the files of a selection, and so is whether it is known.
 use Rattle.std.proofs.Common.{◌≡◌, ℕ, zero, suc, ◌+◌, ◌<◌, Bool, true, false, not, ◌&&◌, ◌||◌, ◌==◌, nat_lt, if◌then◌else◌, List, [], ◌∷◌, map, fold, slice_index, Option, Some, None, Result, Ok, Err, refl, sym, ap, ap₂, subst, ◌∙◌, arith}
+use Rattle.std.proofs.lemmas.Bool.{and_from, and_parts, lt-ltb, ltb-true, or_left, or_right}
 use Rattle.std.proofs.Math.Bool.{or-false, or_assoc}
 use Rattle.std.specs.Prelude.{unwrap_or}
 use Rattle.std.specs.List.{list_any, AllByRecursion}
-use Rattle.std.proofs.lemmas.Bool.Decides.{nat_tests}
 use Rattle.std.proofs.lemmas.Grind.{fold-append}
 use Rattle.plain_tables.specs.Lists.{Has}
 use Rattle.cost_rows.specs.Keys.{place_of_row}
@@ -14,7 +14,7 @@ use Rattle.cost_rows.specs.Walks.{HaveCosts, HaveCounts}
 use Rattle.cost_rows.specs.declared.rows.ArcRow.{ArcRow}
 use Rattle.cost_rows.specs.declared.rows.CellRow.{CellRow}
 use Rattle.cost_rows.specs.declared.rows.StackRow.{StackRow}
-use Rattle.cost_rows.proofs.KnownLemmas.{above_is, both_true, cells_know, is_above, or_first, or_second, same_tests}
+use Rattle.cost_rows.proofs.KnownLemmas.{cells_know, same_tests}
 use Rattle.report_texts.specs.Calls.{Calls, CallsRepresentEach, EventEdges, all_edges, all_calls, call_report_of, call_report_text, calls_by, weighted_calls, with_calls}
 use Rattle.report_texts.specs.Functions.{function_spot, is_one_function}
 use Rattle.report_texts.specs.Inclusive.{is_frame}
@@ -110,14 +110,6 @@ text_unknown t runs event m known told is = ap (λ b. if b then Some (call_repor
 
 -- ---- rows and records know the same functions
 
-first_true : (a b : Bool) → a && b ≡ true → a ≡ true
-first_true true b is = refl
-first_true false b is = is
-
-second_true : (a b : Bool) → a && b ≡ true → b ≡ true
-second_true true b is = is
-second_true false b is = absurd cc
-
 module _ (f : Spot) where
   abbrev of_f : Spot → Bool
   of_f p = is_one_function p f
@@ -142,8 +134,8 @@ module _ (f : Spot) where
     where
       go : (b : Bool) → is_frame f r.stack ≡ b → 0 < (if b then r.count else 0) + stacks_count (is_frame f) stacks → (0 < stacks_count (is_frame f) stacks → is_in_stacks f stacks ≡ true)
           → is_frame f r.stack || is_in_stacks f stacks ≡ true
-      go true here low rest = or_first _ _ here
-      go false here low rest = or_second _ _ (rest (omega (arith, low)))
+      go true here low rest = or_left _ _ here
+      go false here low rest = or_right _ _ (rest (omega (arith, low)))
 
   stack_there : (stacks : List (StackRow (List ℕ))) → HaveCounts stacks → is_in_stacks f stacks ≡ true → 0 < stacks_count (is_frame f) stacks
   stack_there [] above is = absurd cc
@@ -162,9 +154,9 @@ module _ (f : Spot) where
     where
       go : (b : Bool) (n : ℕ) → is_frame f s.stack.frames ≡ b → s.stack.count ≡ n → 0 < (if b then n else 0) + frames_sum (is_frame f) seen → (0 < frames_sum (is_frame f) seen → list_any (is_seen_in f) seen ≡ true)
           → (nat_lt 0 s.stack.count && is_frame f s.stack.frames) || list_any (is_seen_in f) seen ≡ true
-      go true zero here count low rest = or_second _ _ (rest (omega (arith, low)))
-      go true (suc n) here count low rest = or_first _ _ (both_true _ _ (above_is s.stack.count (omega (arith, count))) here)
-      go false n here count low rest = or_second _ _ (rest (omega (arith, low)))
+      go true zero here count low rest = or_right _ _ (rest (omega (arith, low)))
+      go true (suc n) here count low rest = or_left _ _ (and_from _ _ (lt-ltb 0 s.stack.count (omega (arith, count))) here)
+      go false n here count low rest = or_right _ _ (rest (omega (arith, low)))
 
   seen_there : (seen : List Seen) → list_any (is_seen_in f) seen ≡ true → 0 < frames_sum (is_frame f) seen
   seen_there [] is = absurd cc
@@ -172,8 +164,8 @@ module _ (f : Spot) where
     where
       go : (b : Bool) → is_seen_in f s ≡ b → b || list_any (is_seen_in f) seen ≡ true → (list_any (is_seen_in f) seen ≡ true → 0 < frames_sum (is_frame f) seen) → 0 < frames_sum (is_frame f) (s ∷ seen)
       go true here any rest =
-          let low = is_above s.stack.count (first_true _ (is_frame f s.stack.frames) here) in
-          let at = second_true (nat_lt 0 s.stack.count) (is_frame f s.stack.frames) here in
+          let low = ltb-true 0 s.stack.count (and_parts (nat_lt 0 s.stack.count) (is_frame f s.stack.frames) here).0 in
+          let at = (and_parts (nat_lt 0 s.stack.count) (is_frame f s.stack.frames) here).1 in
           subst (λ b. 0 < (if b then s.stack.count else 0) + frames_sum (is_frame f) seen) (sym at) (omega (arith, low))
       go false here any rest = let some = rest any in omega (arith, some)
 
