@@ -1,5 +1,6 @@
 -- Cells that sum to records sum to their costs by the names of events.
 use Rattle.std.proofs.Common.{zero, suc, ◌≡◌, ℕ, ◌+◌, Bool, true, false, ◌&&◌, ◌==◌, if◌then◌else◌, List, [], ◌∷◌, ◌++◌, fold, slice_get, slice_index, Option, Some, None, refl, sym, ap, ap₂, ◌∙◌, arith}
+use Rattle.std.proofs.Math.Bool.{and-false, and-true}
 use Rattle.std.proofs.lemmas.Bool.{eq-eqb}
 use Rattle.std.proofs.Math.Nat.{add-zero, zero-add}
 use Rattle.std.proofs.lemmas.Bool.Decides.{nat_tests}
@@ -108,19 +109,11 @@ module _ (test : EventSpot → Bool) where
   abbrev in_column : Spot → ℕ → ℕ → (Spot → Bool) → ℕ → ℕ
   in_column p n cost passes j = if passes p && (n == j) then cost else 0
 
-  and_false : (b : Bool) → b && false ≡ false
-  and_false true = refl
-  and_false false = refl
-
-  and_true : (b : Bool) → b && true ≡ b
-  and_true true = refl
-  and_true false = refl
-
   not_at : (p : Spot) (n cost : ℕ) (passes : Spot → Bool) (j : ℕ) → (n == j) ≡ false → in_column p n cost passes j ≡ 0
-  not_at p n cost passes j other = ap (λ b. if passes p && b then cost else 0) other ∙ ap (λ b. if b then cost else 0) (and_false (passes p))
+  not_at p n cost passes j other = ap (λ b. if passes p && b then cost else 0) other ∙ ap (λ b. if b then cost else 0) (and-false (passes p))
 
   is_at : (p : Spot) (n cost : ℕ) (passes : Spot → Bool) (j : ℕ) → (n == j) ≡ true → in_column p n cost passes j ≡ (if passes p then cost else 0)
-  is_at p n cost passes j same = ap (λ b. if passes p && b then cost else 0) same ∙ ap (λ b. if b then cost else 0) (and_true (passes p))
+  is_at p n cost passes j same = ap (λ b. if passes p && b then cost else 0) same ∙ ap (λ b. if b then cost else 0) (and-true (passes p))
 
   before : (k i : ℕ) → (k == suc (k + i)) ≡ false
   before k i = grind (arith, nat_tests)

@@ -11,6 +11,7 @@ use Rattle.cost_rows.proofs.KnownLemmas.{cells_know}
 use Rattle.report_texts.specs.Costs.{EventCells, EventRecords, StandForEach, all_rows, weighted}
 use Rattle.report_texts.specs.Amounts.{with_amount}
 use Rattle.report_texts.specs.Annotations.{FileCosts, HaveCostsEach, know_file, no_lines, with_line}
+use Rattle.cost_exports.proofs.LineLemmas.{file-step}
 
 module _ (file : List ℕ) where
   abbrev in_file : Spot → Bool
@@ -25,13 +26,6 @@ module _ (file : List ℕ) where
       → (if b then record { file = held.file; known = true; costs = with_amount nat_cmp held.costs row.line row.cost } else held).known ≡ held.known || b
   known-step held row true = sym (or_right held.known true refl)
   known-step held row false = sym (or-false held.known)
-
-  file-step : (held : FileCosts) (row : CellRow (List ℕ)) → (with_line held row).file ≡ held.file
-  file-step held row = go (bytes_eq row.file held.file)
-    where
-      go : (b : Bool) → (if b then record { file = held.file; known = true; costs = with_amount nat_cmp held.costs row.line row.cost } else held).file ≡ held.file
-      go true = refl
-      go false = refl
 
   known-rows : (rows : List (CellRow (List ℕ))) (held : FileCosts) → held.file ≡ file → (fold with_line held rows).known ≡ held.known || list_any is_row rows
   known-rows [] held is = sym (or-false held.known)

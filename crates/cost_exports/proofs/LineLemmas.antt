@@ -122,6 +122,13 @@ module _ (xs ys : List (ℕ × ℕ)) (same : (passes : ℕ → Bool) → sum_whe
 
 -- ---- from rows to records
 
+pub file-step : (held : FileCosts) (row : CellRow (List ℕ)) → (with_line held row).file ≡ held.file
+file-step held row = go (bytes_eq row.file held.file)
+  where
+    go : (b : Bool) → (if b then record { file = held.file; known = true; costs = with_amount nat_cmp held.costs row.line row.cost } else held).file ≡ held.file
+    go true = refl
+    go false = refl
+
 module _ (file : List ℕ) (passes : ℕ → Bool) where
   abbrev there : Spot → Bool
   there p = bytes_eq p.file file && passes p.line
@@ -140,13 +147,6 @@ module _ (file : List ℕ) (passes : ℕ → Bool) where
       ≡ sum_where passes (λ n. n) held.costs + (if b && passes row.line then row.cost else 0)
   line-step held row true = sum-with nat_apart passes held.costs row.line row.cost
   line-step held row false = sym (add-zero (sum_where passes (λ n. n) held.costs))
-
-  file-step : (held : FileCosts) (row : CellRow (List ℕ)) → (with_line held row).file ≡ held.file
-  file-step held row = go (bytes_eq row.file held.file)
-    where
-      go : (b : Bool) → (if b then record { file = held.file; known = true; costs = with_amount nat_cmp held.costs row.line row.cost } else held).file ≡ held.file
-      go true = refl
-      go false = refl
 
   rows-where : (rows : List (CellRow (List ℕ))) (held : FileCosts) → held.file ≡ file → sum_where passes (λ n. n) (fold with_line held rows).costs ≡ sum_where passes (λ n. n) held.costs + cost_where Line there rows
   rows-where [] held is = sym (add-zero (sum_where passes (λ n. n) held.costs))

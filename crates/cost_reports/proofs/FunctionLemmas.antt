@@ -1,5 +1,6 @@
 -- What the inclusive costs say of one function.
 use Rattle.std.proofs.Common.{◌≡◌, ℕ, ◌+◌, Bool, true, false, not, ◌&&◌, ◌||◌, bytes_eq, if◌then◌else◌, List, [], ◌∷◌, ◌++◌, map, fold, refl, sym, ap, ap₂, subst, ◌∙◌, arith}
+use Rattle.std.proofs.Math.Nat.{zero-add}
 use Rattle.std.proofs.Math.Bool.{or-false}
 use Rattle.std.specs.declared.cmp.Ordering.{Ordering}
 use Rattle.std.specs.declared.cmp.Ordering.TheVariants.{Less, Equal, Greater}
@@ -75,9 +76,6 @@ module _ (f : Spot) where
   abbrev named : List ℕ → Bool
   named name = is_f (function_spot unknown name)
 
-  none_first : (n : ℕ) → n ≡ 0 + n
-  none_first n = omega arith
-
   both_named : (a b : List ℕ) (x : Bool) → (x && bytes_eq a f.function) ≡ true → (x && bytes_eq b f.function) ≡ true → bytes_eq a f.function ≡ true
   both_named a b true first second = first
   both_named a b false first second = absurd cc
@@ -101,7 +99,7 @@ module _ (f : Spot) where
     where
       go : (b : Bool) → named x ≡ b → how_many is_f xs ≡ (if list_any named xs then 1 else 0) → (if b then 1 else 0) + how_many is_f xs ≡ (if b || list_any named xs then 1 else 0)
       go true is rest = let none = none_named x xs is (sorted_head bytes_cmp x xs up) in omega (arith, none)
-      go false is rest = sym (none_first (how_many is_f xs)) ∙ rest
+      go false is rest = zero-add (how_many is_f xs) ∙ rest
 
   one_time : (b : Bool) (n : ℕ) → times (if b then 1 else 0) n ≡ (if b then n else 0)
   one_time true n = let e : n + 0 ≡ n = omega arith in e
@@ -130,7 +128,7 @@ module _ (f : Spot) where
     where
       go : (b : Bool) → cost_where Function is_f (rows_of (outward_costs calls)) ≡ outward_cost f calls
           → cost_where Function is_f (rows_of (if b then outward_costs calls else (c.caller, c.sum.first) ∷ outward_costs calls)) ≡ (if not b && is_f c.caller then c.sum.first else 0) + outward_cost f calls
-      go true rest = rest ∙ none_first (outward_cost f calls)
+      go true rest = rest ∙ sym (zero-add (outward_cost f calls))
       go false rest = ap (λ n. (if is_f c.caller then c.sum.first else 0) + n) rest
 
   pub costs_of_function : (files : List EventRecords) (seen : List Seen) → sum_where is_f (λ n. n) (inclusive_costs files seen).sums ≡ inclusive_cost f files seen
