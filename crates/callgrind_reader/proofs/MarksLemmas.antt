@@ -51,19 +51,6 @@ module _ (n : Names) (told : Namespace → Mark → List ℕ → Type 0) (lent :
     ];
   }
 
--- a name that is lent with its mark
-lent_told : (s : Space) (name : LentName) (mark : Mark) (text : List ℕ) → IsLent s name.mark name.text.now → name_tells name mark text → IsLent s mark text
-lent_told s name mark text lent tells = subst (IsLent s mark) tells.1 (subst (λ m. IsLent s m name.text.now) tells.0 lent)
-
--- three names that are
-pub are-lent : (n : Names) (names : LentNames) → IsLent n.objects names.object.mark names.object.text.now → IsLent n.files names.file.mark names.file.text.now → IsLent n.functions names.function.mark names.function.text.now → AreLent n names
-are-lent n names object file function = go
-  where
-    go : AreLent n names
-    go Object mark text tells = lent_told n.objects names.object mark text object tells
-    go File mark text tells = lent_told n.files names.file mark text file tells
-    go Function mark text tells = lent_told n.functions names.function mark text function tells
-
 -- those of a call are
 pub both-lent : (n : Names) (own called : LentNames) → AreLent n own → AreLent n called → (space : Namespace) (mark : Mark) (text : List ℕ) → (names_tell own space mark text ⊎ names_tell called space mark text) → IsLent (space_of n space) mark text
 both-lent n own called own_lent called_lent space mark text told = elim told [

@@ -112,9 +112,6 @@ stated_by g text = stated_of (length (events_by g text)) (end_by g text)
 
 -- ---- a file that is read now
 
-abbrev pub readings_of : List ℕ → List Reading
-readings_of = readings_by Second
-
 abbrev pub end_of : List ℕ → List Reading
 end_of = end_by Second
 
@@ -126,9 +123,6 @@ records_of_file = records_by Second
 
 abbrev pub events_of_file : List ℕ → List (List ℕ)
 events_of_file = events_by Second
-
-abbrev pub definitions_of_file : List ℕ → List Definition
-definitions_of_file = definitions_by Second
 
 abbrev pub derived_of_file : List ℕ → List (List ℕ × List ℕ)
 derived_of_file = derived_by Second

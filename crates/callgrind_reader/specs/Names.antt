@@ -76,12 +76,6 @@ abbrev pub name_fault : Result Spec Fault → (ℕ → Option (List ℕ)) → Op
 name_fault (Ok s) means = spec_fault s.id s.text means
 name_fault (Err fault) means = Some fault
 
--- what a name line of a space says: its fault, or what identifiers mean after it, and the name that it gives
-pub record Resolves (spec : Result Spec Fault) (before after : ℕ → Option (List ℕ)) (name : List ℕ) (fault : Option Fault) : Type 0 where
-  pub fault_is : fault ≡ name_fault spec before
-  pub means : fault ≡ None → (q : ℕ) → after q ≡ meaning_after spec q (before q)
-  pub name_is : fault ≡ None → name ≡ named spec before
-
 -- ---- names in force
 
 -- whether a word gives a name of this space in this role

@@ -1,16 +1,15 @@
 -- Amounts that are added one after another, told by their sums for every test.
-use Rattle.std.proofs.Common.{zero, suc, inl, inr, ◌≡◌, ℕ, ◌+◌, ◌<◌, Bool, true, false, nat_eq, if◌then◌else◌, List, [], ◌∷◌, ◌++◌, fold, Result, Ok, Err, OnOk, OnErr, refl, sym, ap, ◌∙◌, add_assoc, arith}
+use Rattle.std.proofs.Common.{inl, inr, ◌≡◌, ℕ, ◌+◌, ◌<◌, Bool, true, nat_eq, if◌then◌else◌, List, [], ◌∷◌, ◌++◌, fold, refl, sym, ap, ◌∙◌, add_assoc, arith}
+use Rattle.std.proofs.Math.Nat.{add-zero, zero-add}
 use Rattle.std.specs.declared.cmp.Ordering.{Ordering}
-use Rattle.std.specs.declared.cmp.Ordering.TheVariants.{Less, Equal, Greater}
 use Rattle.std.specs.Cmp.{IsTotalOrder}
 use Rattle.std.specs.List.{AllByRecursion}
 use Rattle.std.specs.List.Sorted.{IsStrictlySortedBy}
 use Rattle.std.specs.Map.{keys_of, values_of}
-use Rattle.std.specs.Ordering.{match_ordering}
-use Rattle.std.proofs.lemmas.Bool.{cases_Bool, eqb-true, ne_eqb}
+use Rattle.std.proofs.lemmas.Bool.{cases_Bool, ne_eqb}
 use Rattle.cost_rows.specs.Merging.{merge, sum_where, TellsApart}
 use Rattle.cost_rows.specs.Stacks.{counts_added}
-use Rattle.cost_rows.proofs.MergeLemmas.{sum-merge, sorted-merge}
+use Rattle.cost_rows.proofs.MergeLemmas.{above-merge, nothing, positive, sum-merge, sorted-merge}
 use Rattle.cost_reports.proofs.SameSums.{same_sums}
 use Rattle.report_texts.specs.Amounts.{amount_of, amounts_by, with_amount}
 
@@ -18,20 +17,6 @@ use Rattle.report_texts.specs.Amounts.{amount_of, amounts_by, with_amount}
 
 pub with_some : {K : Type 0} (cmp : K → K → Ordering) (sums : List (K × ℕ)) (key : K) (n : ℕ) → (n ≡ 0 → ⊥) → with_amount cmp sums key n ≡ merge cmp counts_added sums key n
 with_some cmp sums key n some = rw (ne_eqb n 0 some) refl
-
-nothing : (b : Bool) (n : ℕ) → nat_eq n 0 ≡ true → (if b then n else 0) ≡ 0
-nothing true n h = eqb-true n 0 h
-nothing false n h = refl
-
-positive : (n : ℕ) → nat_eq n 0 ≡ false → 0 < n
-positive zero h = cc
-positive (suc n) h = omega arith
-
-pub no_more : (n : ℕ) → n + 0 ≡ n
-no_more n = omega arith
-
-pub none_before : (n : ℕ) → 0 + n ≡ n
-none_before n = omega arith
 
 module _ {K : Type 0} {cmp : K → K → Ordering} (exact : TellsApart cmp) where
   pub amount-merge : (sums : List (K × ℕ)) (key : K) (n : ℕ) → amount_of (merge cmp counts_added sums key n) ≡ amount_of sums + n
@@ -48,20 +33,20 @@ module _ {K : Type 0} {cmp : K → K → Ordering} (exact : TellsApart cmp) wher
     ]
 
     pub sum-all : (sums amounts : List (K × ℕ)) → sum (fold (λ s (a : K × ℕ). with_amount cmp s a.0 a.1) sums amounts) ≡ sum sums + sum amounts
-    sum-all sums [] = sym (no_more (sum sums))
+    sum-all sums [] = sym (add-zero (sum sums))
     sum-all sums (a ∷ amounts) =
         sum-all (with_amount cmp sums a.0 a.1) amounts
         ∙ ap (λ n. n + sum amounts) (sum-with sums a.0 a.1)
         ∙ add_assoc (sum sums) (if passes a.0 then a.1 else 0) (sum amounts)
 
     pub sum-by : (amounts : List (K × ℕ)) → sum (amounts_by cmp amounts) ≡ sum amounts
-    sum-by amounts = sum-all [] amounts ∙ none_before (sum amounts)
+    sum-by amounts = sum-all [] amounts ∙ zero-add (sum amounts)
 
   pub amount-with : (sums : List (K × ℕ)) (key : K) (n : ℕ) → amount_of (with_amount cmp sums key n) ≡ amount_of sums + n
   amount-with sums key n = sum-with (λ _. true) sums key n
 
 pub sum-append : {K : Type 0} (passes : K → Bool) (xs ys : List (K × ℕ)) → sum_where passes (λ n. n) (xs ++ ys) ≡ sum_where passes (λ n. n) xs + sum_where passes (λ n. n) ys
-sum-append passes [] ys = sym (none_before (sum_where passes (λ n. n) ys))
+sum-append passes [] ys = sym (zero-add (sum_where passes (λ n. n) ys))
 sum-append passes (x ∷ xs) ys =
     let here : ℕ = if passes x.0 then x.1 else 0 in
     ap (λ n. here + n) (sum-append passes xs ys) ∙ sym (add_assoc here (sum_where passes (λ n. n) xs) (sum_where passes (λ n. n) ys))
@@ -72,23 +57,13 @@ module _ {K : Type 0} {cmp : K → K → Ordering} (order : IsTotalOrder cmp) wh
   abbrev Above : List (K × ℕ) → Type 0
   Above sums = AllByRecursion (λ n. 0 < n) (values_of sums)
 
-  above-step : (key : K) (n : ℕ) (e : K × ℕ) (es : List (K × ℕ)) (r : Ordering) → 0 < n → Above (e ∷ es) → Above (merge cmp counts_added es key n)
-      → Above (match_ordering r ((key, n) ∷ e ∷ es) ((e.0, counts_added e.1 n) ∷ es) (e ∷ merge cmp counts_added es key n))
-  above-step key n e es Less some all rest = (some, all)
-  above-step key n e es Equal some all rest = (omega (arith, some), all.1)
-  above-step key n e es Greater some all rest = (all.0, rest)
-
-  above-merge : (es : List (K × ℕ)) (key : K) (n : ℕ) → 0 < n → Above es → Above (merge cmp counts_added es key n)
-  above-merge [] key n some all = (some, tt)
-  above-merge (e ∷ es) key n some all = above-step key n e es (cmp key e.0) some all (above-merge es key n some all.1)
-
   abbrev AreIn : List (K × ℕ) → Type 0
   AreIn sums = IsStrictlySortedBy cmp (keys_of sums) × Above sums
 
   are-with : (sums : List (K × ℕ)) (key : K) (n : ℕ) → AreIn sums → AreIn (with_amount cmp sums key n)
   are-with sums key n are = elim (cases_Bool (nat_eq n 0)) [
     | inl none ↦ rw none are
-    | inr some ↦ rw some (sorted-merge order counts_added sums key n are.0, above-merge sums key n (positive n some) are.1)
+    | inr some ↦ rw some (sorted-merge order counts_added sums key n are.0, above-merge cmp sums key n (positive n some) are.1)
   ]
 
   are-all : (sums amounts : List (K × ℕ)) → AreIn sums → AreIn (fold (λ s (a : K × ℕ). with_amount cmp s a.0 a.1) sums amounts)
@@ -106,13 +81,3 @@ module _ {K : Type 0} {cmp : K → K → Ordering} (order : IsTotalOrder cmp) wh
       let y = are-by ys in
       same_sums order exact (amounts_by cmp xs) (amounts_by cmp ys) x.0 y.0 x.1 y.1
       (λ passes. sum-by exact passes xs ∙ same passes ∙ sym (sum-by exact passes ys))
-
--- ---- after an error
-
-pub on_err : {A E P : Type 0} (r : Result A E) → P → OnErr r P
-on_err (Ok x) p = tt
-on_err (Err e) p = p
-
-pub on_ok_more : {A E P Q : Type 0} (r : Result A E) → (P → Q) → OnOk r P → OnOk r Q
-on_ok_more (Ok x) more p = more p
-on_ok_more (Err e) more p = tt

@@ -1,5 +1,8 @@
 -- Cells that sum to records sum to their costs by the names of events.
 use Rattle.std.proofs.Common.{zero, suc, ◌≡◌, ℕ, ◌+◌, Bool, true, false, ◌&&◌, ◌==◌, if◌then◌else◌, List, [], ◌∷◌, ◌++◌, fold, slice_get, slice_index, Option, Some, None, refl, sym, ap, ap₂, ◌∙◌, arith}
+use Rattle.std.proofs.Math.Bool.{and-false, and-true}
+use Rattle.std.proofs.lemmas.Bool.{eq-eqb}
+use Rattle.std.proofs.Math.Nat.{add-zero, zero-add}
 use Rattle.std.proofs.lemmas.Bool.Decides.{nat_tests}
 use Rattle.cost_rows.specs.Keys.{place_of_row}
 use Rattle.cost_rows.specs.Merging.{sum_where}
@@ -10,7 +13,7 @@ use Rattle.profile_records.specs.Records.{Cost, Record, Own, Called}
 use Rattle.cost_reports.proofs.CostLemmas.{swap_sums}
 use Rattle.report_texts.specs.Amounts.{with_amount}
 use Rattle.report_texts.specs.Csv.{EventSpot, NamedCells, NamedRecords, NamesStandForEach, all_named, costs_from, csv_of_cells, csv_of_records, event_spot_cmp, named_costs, with_cell_in, with_cell_of, with_cells}
-use Rattle.cost_exports.proofs.AmountLemmas.{no_more, none_before, same_amounts, sum-append}
+use Rattle.cost_exports.proofs.AmountLemmas.{same_amounts, sum-append}
 use Rattle.cost_exports.proofs.SpreadLemmas.{event_spot-apart, event_spot-total}
 
 -- ---- the amounts of rows
@@ -81,7 +84,7 @@ module _ (test : EventSpot → Bool) where
   over-none : (k : ℕ) (events : List (List ℕ)) → over k events (λ _ _. 0) ≡ 0
   unfolding over
   over-none k [] = refl
-  over-none k (event ∷ events) = none_before (over (k + 1) events (λ _ _. 0)) ∙ over-none (k + 1) events
+  over-none k (event ∷ events) = zero-add (over (k + 1) events (λ _ _. 0)) ∙ over-none (k + 1) events
 
   abbrev sum : List (EventSpot × ℕ) → ℕ
   sum amounts = sum_where test (λ n. n) amounts
@@ -106,22 +109,11 @@ module _ (test : EventSpot → Bool) where
   abbrev in_column : Spot → ℕ → ℕ → (Spot → Bool) → ℕ → ℕ
   in_column p n cost passes j = if passes p && (n == j) then cost else 0
 
-  and_false : (b : Bool) → b && false ≡ false
-  and_false true = refl
-  and_false false = refl
-
-  and_true : (b : Bool) → b && true ≡ b
-  and_true true = refl
-  and_true false = refl
-
   not_at : (p : Spot) (n cost : ℕ) (passes : Spot → Bool) (j : ℕ) → (n == j) ≡ false → in_column p n cost passes j ≡ 0
-  not_at p n cost passes j other = ap (λ b. if passes p && b then cost else 0) other ∙ ap (λ b. if b then cost else 0) (and_false (passes p))
+  not_at p n cost passes j other = ap (λ b. if passes p && b then cost else 0) other ∙ ap (λ b. if b then cost else 0) (and-false (passes p))
 
   is_at : (p : Spot) (n cost : ℕ) (passes : Spot → Bool) (j : ℕ) → (n == j) ≡ true → in_column p n cost passes j ≡ (if passes p then cost else 0)
-  is_at p n cost passes j same = ap (λ b. if passes p && b then cost else 0) same ∙ ap (λ b. if b then cost else 0) (and_true (passes p))
-
-  same_number : (n : ℕ) → (n == n) ≡ true
-  same_number n = grind (arith, nat_tests)
+  is_at p n cost passes j same = ap (λ b. if passes p && b then cost else 0) same ∙ ap (λ b. if b then cost else 0) (and-true (passes p))
 
   before : (k i : ℕ) → (k == suc (k + i)) ≡ false
   before k i = grind (arith, nat_tests)
@@ -134,7 +126,7 @@ module _ (test : EventSpot → Bool) where
   unfolding over
   none_behind p n cost k [] other = refl
   none_behind p n cost k (event ∷ events) other =
-      let here = not_at p n cost (at event) k (ap (λ j. n == j) (sym (no_more k)) ∙ other 0) in
+      let here = not_at p n cost (at event) k (ap (λ j. n == j) (sym (add-zero k)) ∙ other 0) in
       let rest = none_behind p n cost (k + 1) events (λ i. ap (λ j. n == j) (further k i) ∙ other (suc i)) in
       omega (arith, here, rest)
     where
@@ -149,8 +141,8 @@ module _ (test : EventSpot → Bool) where
   unfolding over
   one_row p cost k i [] = refl
   one_row p cost k zero (event ∷ events) =
-      let here = is_at p (k + 0) cost (at event) k (ap (λ j. j == k) (no_more k) ∙ same_number k) in
-      let rest = none_behind p (k + 0) cost (k + 1) events (λ j. ap₂ (λ m n. m == n) (no_more k) (next k j) ∙ before k j) in
+      let here = is_at p (k + 0) cost (at event) k (ap (λ j. j == k) (add-zero k) ∙ eq-eqb k k refl) in
+      let rest = none_behind p (k + 0) cost (k + 1) events (λ j. ap₂ (λ m n. m == n) (add-zero k) (next k j) ∙ before k j) in
       let goal : (if at event p then cost else 0) ≡ in_column p (k + 0) cost (at event) k + over (k + 1) events (in_column p (k + 0) cost) = omega (arith, here, rest) in
       goal
     where
@@ -168,14 +160,14 @@ module _ (test : EventSpot → Bool) where
   sum_named : (r : CellRow (List ℕ)) (event : Option (List ℕ)) → sum (amount_named r event) ≡ named (place_of_row r) r.cost event
   unfolding amount_named
   sum_named r None = refl
-  sum_named r (Some event) = no_more (if at event (place_of_row r) then r.cost else 0)
+  sum_named r (Some event) = add-zero (if at event (place_of_row r) then r.cost else 0)
 
   of_cells : (events : List (List ℕ)) (cells : List (CellRow (List ℕ))) → sum (amounts_of events cells) ≡ over 0 events (λ passes k. rows_cost passes k cells)
   unfolding amounts_of
   of_cells events [] = sym (over-none 0 events)
   of_cells events (r ∷ cells) =
       sum-append test (amount_named r (slice_get events r.event)) (amounts_of events cells)
-      ∙ ap₂ ◌+◌ (sum_named r (slice_get events r.event) ∙ one_row (place_of_row r) r.cost 0 r.event events ∙ ap (λ n. over 0 events (in_column (place_of_row r) n r.cost)) (none_before r.event)) (of_cells events cells)
+      ∙ ap₂ ◌+◌ (sum_named r (slice_get events r.event) ∙ one_row (place_of_row r) r.cost 0 r.event events ∙ ap (λ n. over 0 events (in_column (place_of_row r) n r.cost)) (zero-add r.event)) (of_cells events cells)
       ∙ sym (over-sum 0 events (in_column (place_of_row r) r.event r.cost) (λ passes k. rows_cost passes k cells))
 
   of_runs : (files : List NamedRecords) (runs : List NamedCells) → NamesStandForEach files runs → sum (amounts_of_runs runs) ≡ sum (all_named files)

@@ -1,18 +1,18 @@
 -- The comma-separated text of rows is read as these rows.
 use Rattle.std.proofs.Common.{zero, suc, ◌≡◌, ℕ, ◌+◌, ◌-◌, ◌<◌, ◌≤◌, if◌then◌else◌, List, [], ◌∷◌, ◌++◌, length, map, refl, ap, ◌∙◌, arith, length-append}
+use Rattle.std.proofs.Math.Nat.{zero-add}
 use Rattle.csv.specs.Machine.{next_record}
 use Rattle.csv.specs.Reading.{default_config, records, records_from}
 use Rattle.csv.specs.Writing.{default_writer, is_blank, read_back, row_body, row_text}
 use Rattle.csv.specs.declared.parser.State.TheVariants as st
 use Rattle.csv.proofs.RoundTrip.{read-write, rows_text}
 use Rattle.report_texts.specs.Csv.{EventSpot, csv_fields, csv_header, csv_row, csv_rows, csv_text}
-use Rattle.cost_exports.proofs.AmountLemmas.{none_before}
 
 -- as many as there are, however many more are asked for
 read-all : (rows : List (List (List ℕ))) (more : ℕ) → records_from default_config (length rows + more) st.StartRecord (rows_text rows) ≡ map read_back rows
 unfolding records_from rows_text next_record
 read-all [] zero = refl
-read-all [] (suc more) = ap (λ n. records_from default_config n st.StartRecord (rows_text [])) (none_before (suc more))
+read-all [] (suc more) = ap (λ n. records_from default_config n st.StartRecord (rows_text [])) (zero-add (suc more))
 read-all (row ∷ rows) more =
     let many : length (row ∷ rows) + more ≡ suc (length rows + more) = omega arith in
     ap (λ n. records_from default_config n st.StartRecord (row_text default_writer row ++ rows_text rows)) many

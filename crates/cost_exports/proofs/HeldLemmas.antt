@@ -1,5 +1,5 @@
 -- Texts that are held, or counted.
-use Rattle.std.proofs.Common.{◌≡◌, ◌+◌, ℕ, List, [], ◌++◌, length, refl, sym, ap, ◌∙◌, append_assoc, append-nil, arith}
+use Rattle.std.proofs.Common.{◌≡◌, ◌+◌, ℕ, List, ◌++◌, length, refl, sym, ap, ◌∙◌, append_assoc, append-nil, arith}
 use Rattle.std.proofs.lemmas.List.{length-append}
 use Rattle.shared_texts.specs.Sinks.{HasGone}
 use Rattle.cost_exports.specs.declared.held_texts.CountedText.{CountedText}

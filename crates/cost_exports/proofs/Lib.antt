@@ -9,5 +9,4 @@ pub mod ReadBackLemmas
 pub mod SlotLemmas
 pub mod SpreadLemmas
 pub mod StackLemmas
-pub mod StackWrittenLemmas
 mod Examples

@@ -1,5 +1,7 @@
 -- Costs by line: what is found at a line, and what is outside.
 use Rattle.std.proofs.Common.{inl, inr, ◌≡◌, ℕ, ◌+◌, Bool, true, false, ◌&&◌, ◌||◌, ◌==◌, bytes_eq, cond, if◌then◌else◌, List, [], ◌∷◌, length, fold, Some, unwrap_or, refl, sym, ap, ap₂, ◌∙◌, arith}
+use Rattle.std.proofs.lemmas.Bool.{eq-eqb}
+use Rattle.std.proofs.Math.Nat.{add-zero, zero-add}
 use Rattle.std.specs.declared.cmp.Ordering.{Ordering}
 use Rattle.std.specs.declared.cmp.Ordering.TheVariants.{Less, Equal, Greater}
 use Rattle.std.specs.Cmp.{nat_cmp_total}
@@ -24,7 +26,7 @@ use Rattle.report_texts.specs.Costs.{EventCells, EventRecords, StandForEach, all
 use Rattle.cost_reports.proofs.CostLemmas.{same_costs}
 use Rattle.report_texts.specs.Amounts.{amount_of, with_amount}
 use Rattle.report_texts.specs.Annotations.{Annotation, FileCosts, SourceLine, annotation_of, annotation_of_records, cost_at, cost_of_lines, costs_in, is_outside, no_lines, outside_cost, source_lines, with_line}
-use Rattle.cost_exports.proofs.AmountLemmas.{no_more, none_before, sum-with}
+use Rattle.cost_exports.proofs.AmountLemmas.{sum-with}
 
 pub nat_apart : TellsApart nat_cmp
 nat_apart = exact_unsigned
@@ -43,9 +45,6 @@ differs line n o is other = elim (cases_Bool (n == line)) [
     tied_is : (k : ℕ) → is_eq (nat_cmp k k) ≡ true
     tied_is k = ap is_eq (tied_itself nat_cmp_total k)
 
-same_number : (n : ℕ) → (n == n) ≡ true
-same_number n = grind (arith, nat_tests)
-
 -- a line below all others costs nothing among them
 none_below : (line : ℕ) (es : List (ℕ × ℕ)) → AllByRecursion (λ y. nat_cmp line y ≡ Less) (keys_of es) → cost_at line es ≡ 0
 none_below line [] all = refl
@@ -60,13 +59,13 @@ cost-found line (e ∷ es) sorted = go (nat_cmp line e.0) refl (cost-found line 
 
     go : (o : Ordering) → nat_cmp line e.0 ≡ o → unwrap_or (lookup (is_at (nat_cmp line)) es) 0 ≡ cost_at line es
         → unwrap_or (cond (is_eq o) (Some e.1) (lookup (is_at (nat_cmp line)) es)) 0 ≡ cost_at line (e ∷ es)
-    go Less is rest = rw (differs line e.0 Less is refl) (rest ∙ sym (none_before (cost_at line es)))
+    go Less is rest = rw (differs line e.0 Less is refl) (rest ∙ sym (zero-add (cost_at line es)))
     go Equal is rest =
         let here : line ≡ e.0 = exact_unsigned line e.0 is in
-        let found : (e.0 == line) ≡ true = ap (λ n. e.0 == n) here ∙ same_number e.0 in
+        let found : (e.0 == line) ≡ true = ap (λ n. e.0 == n) here ∙ eq-eqb e.0 e.0 refl in
         let none : cost_at line es ≡ 0 = ap (λ n. cost_at n es) here ∙ none_below e.0 es above in
         rw found (omega (arith, none))
-    go Greater is rest = rw (differs line e.0 Greater is refl) (rest ∙ sym (none_before (cost_at line es)))
+    go Greater is rest = rw (differs line e.0 Greater is refl) (rest ∙ sym (zero-add (cost_at line es)))
 
 -- ---- what is shown, and what is outside
 
@@ -87,7 +86,7 @@ outside-step k (e ∷ costs) =
     either (e.0 == k + 1) (is_outside (k + 1) e.0) (is_outside k e.0) e.1 (cost_at (k + 1) costs) (outside_cost (k + 1) costs) (outside_cost k costs) one.0 one.1 (outside-step k costs)
 
 pub shown-outside : (k : ℕ) (costs : List (ℕ × ℕ)) (lines : List (List ℕ)) → outside_cost k costs ≡ cost_of_lines (source_lines costs (numbered (k + 1) lines)) + outside_cost (k + length lines) costs
-shown-outside k costs [] = ap (λ n. outside_cost n costs) (sym (no_more k)) ∙ sym (none_before (outside_cost (k + 0) costs))
+shown-outside k costs [] = ap (λ n. outside_cost n costs) (sym (add-zero k)) ∙ sym (zero-add (outside_cost (k + 0) costs))
 shown-outside k costs (line ∷ lines) =
     let here = outside-step k costs in
     let rest = shown-outside (k + 1) costs lines in
@@ -103,7 +102,7 @@ outside-all [] = refl
 outside-all (e ∷ costs) = rw (all_outside e.0) (ap (λ n. e.1 + n) (outside-all costs))
 
 pub total-shown : (costs : List (ℕ × ℕ)) (lines : List (List ℕ)) → amount_of costs ≡ cost_of_lines (source_lines costs (numbered 1 lines)) + outside_cost (length lines) costs
-total-shown costs lines = sym (outside-all costs) ∙ shown-outside 0 costs lines ∙ ap (λ n. cost_of_lines (source_lines costs (numbered 1 lines)) + outside_cost n costs) (none_before (length lines))
+total-shown costs lines = sym (outside-all costs) ∙ shown-outside 0 costs lines ∙ ap (λ n. cost_of_lines (source_lines costs (numbered 1 lines)) + outside_cost n costs) (zero-add (length lines))
 
 -- ---- costs with the same sums have the same annotation
 
@@ -123,13 +122,16 @@ module _ (xs ys : List (ℕ × ℕ)) (same : (passes : ℕ → Bool) → sum_whe
 
 -- ---- from rows to records
 
+pub file-step : (held : FileCosts) (row : CellRow (List ℕ)) → (with_line held row).file ≡ held.file
+file-step held row = go (bytes_eq row.file held.file)
+  where
+    go : (b : Bool) → (if b then record { file = held.file; known = true; costs = with_amount nat_cmp held.costs row.line row.cost } else held).file ≡ held.file
+    go true = refl
+    go false = refl
+
 module _ (file : List ℕ) (passes : ℕ → Bool) where
   abbrev there : Spot → Bool
   there p = bytes_eq p.file file && passes p.line
-
-  in_file : (a b : Bool) (n : ℕ) → (if a then (if b then n else 0) else 0) ≡ (if a && b then n else 0)
-  in_file true b n = refl
-  in_file false b n = refl
 
   records-where : (costs : List (Spot × ℕ)) → sum_where passes (λ n. n) (costs_in file costs) ≡ cost_where Line there (rows_of costs)
   records-where [] = refl
@@ -138,23 +140,16 @@ module _ (file : List ℕ) (passes : ℕ → Bool) where
       go : (b : Bool) → sum_where passes (λ n. n) (costs_in file costs) ≡ cost_where Line there (rows_of costs)
           → sum_where passes (λ n. n) (if b then (e.0.line, e.1) ∷ costs_in file costs else costs_in file costs) ≡ (if b && passes e.0.line then e.1 else 0) + cost_where Line there (rows_of costs)
       go true rest = ap (λ n. (if passes e.0.line then e.1 else 0) + n) rest
-      go false rest = rest ∙ sym (none_before (cost_where Line there (rows_of costs)))
+      go false rest = rest ∙ sym (zero-add (cost_where Line there (rows_of costs)))
 
   line-step : (held : FileCosts) (row : CellRow (List ℕ)) (b : Bool)
       → sum_where passes (λ n. n) (if b then record { file = held.file; known = true; costs = with_amount nat_cmp held.costs row.line row.cost } else held).costs
       ≡ sum_where passes (λ n. n) held.costs + (if b && passes row.line then row.cost else 0)
   line-step held row true = sum-with nat_apart passes held.costs row.line row.cost
-  line-step held row false = sym (no_more (sum_where passes (λ n. n) held.costs))
-
-  file-step : (held : FileCosts) (row : CellRow (List ℕ)) → (with_line held row).file ≡ held.file
-  file-step held row = go (bytes_eq row.file held.file)
-    where
-      go : (b : Bool) → (if b then record { file = held.file; known = true; costs = with_amount nat_cmp held.costs row.line row.cost } else held).file ≡ held.file
-      go true = refl
-      go false = refl
+  line-step held row false = sym (add-zero (sum_where passes (λ n. n) held.costs))
 
   rows-where : (rows : List (CellRow (List ℕ))) (held : FileCosts) → held.file ≡ file → sum_where passes (λ n. n) (fold with_line held rows).costs ≡ sum_where passes (λ n. n) held.costs + cost_where Line there rows
-  rows-where [] held is = sym (no_more (sum_where passes (λ n. n) held.costs))
+  rows-where [] held is = sym (add-zero (sum_where passes (λ n. n) held.costs))
   rows-where (row ∷ rows) held is =
       let one = line-step held row (bytes_eq row.file held.file) ∙ ap (λ f. sum_where passes (λ n. n) held.costs + (if bytes_eq row.file f && passes row.line then row.cost else 0)) is in
       let rest = rows-where rows (with_line held row) (file-step held row ∙ is) in
@@ -166,7 +161,7 @@ annotation-records file source files runs stand =
     same_annotation (fold with_line (no_lines file) (all_rows runs)).costs (costs_in file (all_costs files))
     (λ passes.
     rows-where file passes (all_rows runs) (no_lines file) refl
-    ∙ none_before (cost_where Line (there file passes) (all_rows runs))
+    ∙ zero-add (cost_where Line (there file passes) (all_rows runs))
     ∙ same_costs Line (there file passes) files runs stand
     ∙ sym (records-where file passes (all_costs files)))
     file source

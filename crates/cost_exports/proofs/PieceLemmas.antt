@@ -1,5 +1,5 @@
 -- Texts that are written in pieces.
-use Rattle.std.proofs.Common.{◌≡◌, inl, inr, ℕ, true, false, List, [], ◌++◌, Result, Ok, Err, IsErrAnd, MatchResult, OnErr, refl, sym, ap, subst, ◌∙◌, append_assoc, append-nil}
+use Rattle.std.proofs.Common.{◌≡◌, inl, inr, ℕ, true, List, [], ◌++◌, Result, Ok, Err, IsErrAnd, MatchResult, OnErr, refl, sym, ap, subst, ◌∙◌, append_assoc, append-nil}
 use Rattle.cost_exports.specs.Views.{HasWritten}
 use Rattle.cost_exports.specs.Pieces.{IsCut, IsOn, IsOut}
 use Rattle.shared_texts.specs.Sinks.{HasGone}

@@ -11,12 +11,12 @@ use Rattle.std.specs.Ordering.{match_ordering, nat_cmp, ordering_then}
 use Rattle.std.proofs.lemmas.Bool.{cases_Bool}
 use Rattle.std.proofs.lemmas.Cmp.{on_total, then_total, tied_itself}
 use Rattle.std.proofs.lemmas.Map.Keys.{sorted_head, sorted_tail}
-use Rattle.std.proofs.lemmas.Map.Lookups.{exact_unsigned}
 use Rattle.cost_rows.specs.Keys.{named_cmp}
 use Rattle.cost_rows.specs.Merging.{merge, TellsApart}
 use Rattle.cost_rows.specs.Stacks.{bytes_cmp, counts_added}
 use Rattle.cost_rows.specs.Sums.{Spot}
 use Rattle.cost_rows.proofs.KeysLemmas.{named_cmp-total, named_cmp-apart}
+use Rattle.cost_rows.proofs.MergeLemmas.{lower}
 use Rattle.cost_rows.proofs.PlacesLemmas.{both_equal}
 use Rattle.report_texts.specs.Amounts.{amount_of}
 use Rattle.report_texts.specs.Csv.{EventSpot, event_spot_cmp}
@@ -51,12 +51,6 @@ names-apart a b h =
 
 pub line-total : IsTotalOrder line_cmp
 line-total = then_total (on_total (λ (l : LineEvent). l.line) nat_cmp_total) (on_total (λ (l : LineEvent). l.event) nat_list_cmp_total)
-
-pub line-apart : TellsApart line_cmp
-line-apart a b h =
-    let both = both_equal (nat_cmp a.line b.line) (bytes_cmp a.event b.event) h in
-    let make : ℕ → List ℕ → LineEvent = λ line event. record { line = line; event = event } in
-    ap₂ make (exact_unsigned a.line b.line both.0) (bytes_apart a.event b.event both.1)
 
 -- names first, then lines and events; none of the places tells a thread
 grouped : (a b d e f : Ordering) → ordering_then (ordering_then a (ordering_then b (ordering_then d (ordering_then e Equal)))) f ≡ ordering_then (ordering_then a (ordering_then b d)) (ordering_then e f)
@@ -135,14 +129,10 @@ spread-merge (g ∷ places) p l n sorted = go (names_cmp p g.0) refl (spread-mer
     higher : AllByRecursion (λ q. names_cmp g.0 q ≡ Less) (keys_of places)
     higher = sorted_head names_cmp g.0 (keys_of places) sorted
 
-    lower : (low : PlaceNames) (ks : List PlaceNames) → names_cmp low g.0 ≡ Less → AllByRecursion (λ q. names_cmp g.0 q ≡ Less) ks → AllByRecursion (λ q. names_cmp low q ≡ Less) ks
-    lower low [] below all = tt
-    lower low (k ∷ ks) below all = (names-total.trans low g.0 k below all.0, lower low ks below all.1)
-
     go : (o : Ordering) → names_cmp p g.0 ≡ o → spread (merge names_cmp lines_added places p ((l, n) ∷ [])) ≡ merged (spread places) (spot_with p l) n
         → spread (match_ordering o ((p, (l, n) ∷ []) ∷ g ∷ places) ((g.0, lines_added g.1 ((l, n) ∷ [])) ∷ places) (g ∷ merge names_cmp lines_added places p ((l, n) ∷ [])))
         ≡ merged (placed g.0 g.1 ++ spread places) (spot_with p l) n
-    go Less is further = sym (in_front (placed g.0 g.1 ++ spread places) (spot_with p l) n (above-placed p g.0 l g.1 (spread places) is (above-spread p l places (lower p (keys_of places) is higher))))
+    go Less is further = sym (in_front (placed g.0 g.1 ++ spread places) (spot_with p l) n (above-placed p g.0 l g.1 (spread places) is (above-spread p l places (lower names-total p g.0 (keys_of places) is higher))))
     go Equal is further =
         in_place g.0 l n g.1 (spread places) (above-spread g.0 l places higher)
         ∙ ap (λ q. merged (placed g.0 g.1 ++ spread places) (spot_with q l) n) (sym (names-apart p g.0 is))

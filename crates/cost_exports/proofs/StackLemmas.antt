@@ -1,13 +1,12 @@
 -- Rows of stacks and stacks that were seen, told by their counts for every test.
 use Rattle.std.proofs.Common.{◌≡◌, ℕ, ◌+◌, Bool, if◌then◌else◌, List, [], ◌∷◌, map, fold, refl, sym, ap, ◌∙◌}
-use Rattle.std.specs.Ordering.{is_eq}
+use Rattle.std.proofs.lemmas.Map.Lookups.{exact_bytes}
 use Rattle.profile_records.specs.Stacks.{Seen}
 use Rattle.cost_rows.specs.Merging.{sum_where, TellsApart}
 use Rattle.cost_rows.specs.Stacks.{bytes_cmp}
 use Rattle.cost_rows.specs.StackSums.{frames_sum}
 use Rattle.cost_rows.specs.WalkSums.{stacks_count}
 use Rattle.cost_rows.specs.declared.rows.StackRow.{StackRow}
-use Rattle.cost_rows.proofs.NumberedLemmas.{equal-bytes}
 use Rattle.cost_rows.proofs.StacksLemmas.{bytes_cmp-total}
 use Rattle.report_texts.specs.Inclusive.{SameStacks}
 use Rattle.report_texts.specs.Amounts.{with_amount}
@@ -15,7 +14,7 @@ use Rattle.report_texts.specs.Folded.{counts_of, folded_of_rows, folded_of_stack
 use Rattle.cost_exports.proofs.AmountLemmas.{same_amounts}
 
 pub bytes_apart : TellsApart bytes_cmp
-bytes_apart a b h = equal-bytes a b (ap is_eq h)
+bytes_apart = exact_bytes
 
 abbrev counts_in : List (StackRow (List ℕ)) → List (List ℕ × ℕ)
 counts_in rows = map (λ (r : StackRow (List ℕ)). (r.stack, r.count)) rows

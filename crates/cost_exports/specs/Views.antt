@@ -1,17 +1,16 @@
 -- Sums as the code holds them: by the names of places, and under these by line and event.
-use Rattle.std.specs.Prelude.{◌≡◌, ℕ, ◌<◌, false, List, [], ◌∷◌, ◌++◌, slice_index_or, Option, Some}
+use Rattle.std.specs.Prelude.{◌≡◌, ℕ, false, List, [], ◌∷◌, ◌++◌, slice_index_or, Option, Some}
 use Rattle.std.specs.declared.cmp.Ordering.{Ordering}
 use Rattle.std.specs.BTreeMap.{is_at}
-use Rattle.std.specs.List.{AllByRecursion}
-use Rattle.std.specs.List.Sorted.{IsStrictlySortedBy}
-use Rattle.std.specs.Map.{lookup, keys_of, values_of}
+use Rattle.std.specs.Map.{lookup}
 use Rattle.std.specs.Ordering.{nat_cmp, ordering_then}
 use Rattle.std.specs.Rc.{rc_slice_items}
 use Rattle.std.specs.declared.vec.Vec.{Vec}
 use Rattle.csv.specs.Writing.{default_writer, fields_written, has_written, text_written, writer_setup}
 use Rattle.csv.specs.declared.writer.Writer.{Writer}
 use Rattle.cost_rows.specs.Merging.{merge_all, seen}
-use Rattle.cost_rows.specs.Slots.{AreApart}
+use Rattle.cost_rows.specs.Own.{valued}
+use Rattle.cost_rows.specs.Slots.{AreSlotsBy}
 use Rattle.cost_rows.specs.Stacks.{bytes_cmp, counts_added}
 use Rattle.cost_rows.specs.declared.rows.CellRow.{CellRow}
 use Rattle.report_texts.specs.Csv.{EventSpot}
@@ -64,8 +63,7 @@ pub record Slotted : Type 0 where
 
 -- what leads to slots, with the lines in them
 abbrev pub with_lines : List (List (LineEvent × ℕ)) → List (PlaceNames × ℕ) → List (PlaceNames × List (LineEvent × ℕ))
-with_lines lines [] = []
-with_lines lines (e ∷ slots) = (e.0, slice_index_or lines e.1 []) ∷ with_lines lines slots
+with_lines lines slots = valued (λ n. slice_index_or lines n []) slots
 
 -- each place and event with its cost
 abbrev pub sums_in : Slotted → List (EventSpot × ℕ)
@@ -76,10 +74,8 @@ abbrev pub slot_of : PlaceNames → List (PlaceNames × ℕ) → Option ℕ
 slot_of names slots = lookup (is_at (names_cmp names)) slots
 
 -- the names stand in order, each with a slot of its own, and there are so many slots
-pub record AreSlots (slots : List (PlaceNames × ℕ)) (count : ℕ) : Type 0 where
-  pub order : IsStrictlySortedBy names_cmp (keys_of slots)
-  pub below : AllByRecursion (λ n. n < count) (values_of slots)
-  pub apart : AreApart slots
+abbrev pub AreSlots : List (PlaceNames × ℕ) → ℕ → Type 0
+AreSlots = AreSlotsBy names_cmp
 
 -- ---- as the code holds them
 

@@ -4,10 +4,9 @@ ghost use Rattle.cg_text.specs.Lines.{lines_of, numbered};
 ghost use Rattle.report_texts.specs.Annotations.{annotation_head, annotation_of, annotation_text, line_cost, outside_cost, source_line, source_line_text, source_lines, source_text, sum_line};
 
 use crate::line_sums::LineSums;
-use crate::numbers::push_number;
 use byte_io::push_escaped;
 use cg_text::{Lines, ListVec, strip_carriage_return};
-use cost_reports::{check_length, whole_text};
+use cost_reports::{check_length, push_number, whole_text};
 use std::alloc::{AllocError, Global};
 
 /// Adds what a line cost: a dot where it is 0.

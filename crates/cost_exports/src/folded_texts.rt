@@ -2,10 +2,9 @@
 ghost use Rattle.std.specs.Prelude.{◌≡◌, ◌++◌, ◌≤◌, OnOk, IfOk, length};
 ghost use Rattle.report_texts.specs.Folded.{folded_text, stack_line};
 
-use crate::numbers::push_number;
 use crate::stack_sums::StackSums;
 use cg_text::ListVec;
-use cost_reports::{check_length, whole_text};
+use cost_reports::{check_length, push_number, whole_text};
 use std::alloc::{AllocError, Global};
 
 /// Adds the line of a stack.

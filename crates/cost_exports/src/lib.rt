@@ -23,8 +23,6 @@ mod laws;
 mod line_costs;
 // What the lines of one file cost (report_texts/specs/Annotations.antt).
 mod line_sums;
-// What is printed of a number.
-mod numbers;
 // The lines of places, found by the names of the place (specs/Views.antt).
 mod places;
 // Names that keys share.

@@ -6,6 +6,7 @@ ghost use Rattle.report_texts.specs.Amounts.{amount_of};
 ghost use Rattle.cost_exports.specs.Views.{held_line, held_lines, line_cmp};
 
 use crate::cells::HeldLine;
+use cost_rows::merge_cost;
 use std::alloc::{AllocError, Global};
 use std::collections::BTreeMap;
 use std::collections::btree_map::Iter;
@@ -42,14 +43,7 @@ impl LineCosts {
         ensures ok { OnOk result (self.new ≡ merge line_cmp counts_added self.old (held_line line.now) cost) }
         ensures err { OnErr result (self.new ≡ self.old) }
     {
-        match self.costs.get_mut(line) {
-            Some(held) => *held += cost,
-            None => {
-                let line = line.share()?;
-                self.costs.insert(line, cost)?;
-            }
-        }
-        Ok(())
+        merge_cost(&mut self.costs, line.share()?, cost)
     }
 
     /// The costs, in order. Takes no memory.

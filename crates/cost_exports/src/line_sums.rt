@@ -5,7 +5,7 @@ ghost use Rattle.cost_rows.specs.Plain.{plain_cell};
 ghost use Rattle.report_texts.specs.Amounts.{amount_of, with_amount};
 ghost use Rattle.report_texts.specs.Annotations.{cost_at, no_lines, with_line};
 
-use cost_rows::CellRow;
+use cost_rows::{CellRow, merge_cost};
 use std::alloc::{AllocError, Global};
 use std::collections::BTreeMap;
 use std::marker::Model;
@@ -20,13 +20,7 @@ fn add_cost(sums: &mut BTreeMap<u64, u128>, line: u64, cost: u128) -> Result<(),
     if cost == 0 {
         return Ok(());
     }
-    match sums.get_mut(&line) {
-        Some(held) => *held += cost,
-        None => {
-            sums.insert(line, cost)?;
-        }
-    }
-    Ok(())
+    merge_cost(sums, line, cost)
 }
 
 /// What the lines of one file cost, added up row by row: contracts see the file, whether a row of it

@@ -5,7 +5,7 @@ ghost use Rattle.cost_rows.specs.Stacks.{bytes_cmp, by_bytes};
 ghost use Rattle.report_texts.specs.Amounts.{amount_of, with_amount};
 ghost use Rattle.report_texts.specs.Folded.{with_stack};
 
-use cost_rows::StackRow;
+use cost_rows::{StackRow, merge_cost};
 use std::alloc::{AllocError, Global};
 use std::collections::BTreeMap;
 use std::collections::btree_map::Iter;
@@ -26,14 +26,7 @@ fn add_count(
     if count == 0 {
         return Ok(());
     }
-    match sums.get_mut(stack) {
-        Some(held) => *held += count,
-        None => {
-            let stack = stack.to_vec(alloc)?;
-            sums.insert(stack, count)?;
-        }
-    }
-    Ok(())
+    merge_cost(sums, stack.to_vec(alloc)?, count)
 }
 
 /// Stacks with their counts, added up row by row: contracts see a count above 0 for each stack, in the

@@ -1,5 +1,7 @@
 -- Rows of calls that sum to records, column by column, sum to their callers and callees.
 use Rattle.std.proofs.Common.{◌≡◌, ℕ, zero, suc, ◌+◌, Bool, true, false, ◌&&◌, ◌||◌, if◌then◌else◌, List, [], ◌∷◌, ◌++◌, map, slice_index, refl, sym, ap, ap₂, ◌∙◌, arith}
+use Rattle.std.proofs.Math.Bool.{or_assoc}
+use Rattle.std.proofs.Math.Nat.{zero-add}
 use Rattle.std.specs.List.{list_any}
 use Rattle.std.specs.Map.{keys_of}
 use Rattle.cg_formulas.specs.Formulas.{weighed}
@@ -40,9 +42,6 @@ module _ (side : CallSide) (f : Spot) (passes : Spot → Bool) where
   any_chosen [] = false
   any_chosen (c ∷ calls) = chosen c || any_chosen calls
 
-  none_first : (n : ℕ) → n ≡ 0 + n
-  none_first n = omega arith
-
   sum_at : (m : Pair → ℕ) (calls : List Calls) → sum_where passes m (calls_at side f calls) ≡ sum_chosen m calls
   sum_at m [] = refl
   sum_at m (c ∷ calls) = go (is_one_function f (asked side c)) (sum_at m calls)
@@ -50,7 +49,7 @@ module _ (side : CallSide) (f : Spot) (passes : Spot → Bool) where
       go : (b : Bool) → sum_where passes m (calls_at side f calls) ≡ sum_chosen m calls
           → sum_where passes m (if b then (other side c, c.sum) ∷ calls_at side f calls else calls_at side f calls) ≡ (if b && passes (other side c) then m c.sum else 0) + sum_chosen m calls
       go true rest = ap (λ n. (if passes (other side c) then m c.sum else 0) + n) rest
-      go false rest = rest ∙ none_first (sum_chosen m calls)
+      go false rest = rest ∙ sym (zero-add (sum_chosen m calls))
 
   any_at : (calls : List Calls) → list_any passes (keys_of (calls_at side f calls)) ≡ any_chosen calls
   any_at [] = refl
@@ -62,16 +61,12 @@ module _ (side : CallSide) (f : Spot) (passes : Spot → Bool) where
       go false rest = rest
 
   sum_append : (m : Pair → ℕ) (xs ys : List Calls) → sum_chosen m (xs ++ ys) ≡ sum_chosen m xs + sum_chosen m ys
-  sum_append m [] ys = none_first (sum_chosen m ys)
+  sum_append m [] ys = sym (zero-add (sum_chosen m ys))
   sum_append m (x ∷ xs) ys = let rest = sum_append m xs ys in omega (arith, rest)
-
-  or_or : (a b d : Bool) → (a || (b || d)) ≡ ((a || b) || d)
-  or_or true b d = refl
-  or_or false b d = refl
 
   any_append : (xs ys : List Calls) → any_chosen (xs ++ ys) ≡ (any_chosen xs || any_chosen ys)
   any_append [] ys = refl
-  any_append (x ∷ xs) ys = ap (λ b. chosen x || b) (any_append xs ys) ∙ or_or (chosen x) (any_chosen xs) (any_chosen ys)
+  any_append (x ∷ xs) ys = ap (λ b. chosen x || b) (any_append xs ys) ∙ sym (or_assoc (chosen x) (any_chosen xs) (any_chosen ys))
 
   -- ---- rows and records
 

@@ -1,5 +1,6 @@
 -- Cells that sum to records, column by column, sum to their costs by key.
 use Rattle.std.proofs.Common.{◌≡◌, ℕ, zero, suc, ◌+◌, ◌*◌, Bool, true, false, ◌&&◌, ◌==◌, if◌then◌else◌, List, [], ◌∷◌, map, slice_index, refl, sym, ap, ap₂, ◌∙◌, arith}
+use Rattle.std.proofs.Math.Nat.{add-zero, zero-add}
 use Rattle.std.proofs.Math.Nat.{mul-add, mul-zero}
 use Rattle.std.proofs.Math.Dec.{eqb-suc-zero, eqb-zero-suc, eqb-suc-suc}
 use Rattle.std.proofs.lemmas.List.Sums.{sum_by-cons}
@@ -13,7 +14,7 @@ use Rattle.cost_rows.specs.WalkSums.{rows_cost}
 use Rattle.cost_rows.specs.declared.keys.Key.{Key}
 use Rattle.cost_rows.specs.declared.rows.CellRow.{CellRow}
 use Rattle.report_texts.specs.Costs.{EventRecords, EventCells, StandForEach, costs_of, all_costs, costs_by, weighted, all_rows}
-use Rattle.cost_reports.proofs.KeyLemmas.{no_more, same_by_key, where_append, rows_append}
+use Rattle.cost_reports.proofs.KeyLemmas.{same_by_key, where_append, rows_append}
 
 -- ---- costs of columns, each as often as it counts
 
@@ -50,9 +51,6 @@ value_weighed (times ∷ coefs) (cost ∷ costs) = sum_by-cons product (times, c
 
 -- ---- one row, and one record
 
-none_more : (n : ℕ) → n + 0 ≡ n
-none_more n = omega arith
-
 none_counts : (n : ℕ) → 0 ≡ 0 * n
 none_counts n = omega arith
 
@@ -61,11 +59,11 @@ unfolding value
 one_row [] event cost = none_counts cost
 one_row (times ∷ coefs) zero cost =
     ap (λ n. times * cost + n) (value_same coefs (λ k. if zero == suc k then cost else 0) (λ _. 0) (λ k. ap (λ b. if b then cost else 0) (eqb-zero-suc k)) ∙ value_none coefs)
-    ∙ none_more (times * cost)
+    ∙ add-zero (times * cost)
 one_row (times ∷ coefs) (suc event) cost =
     ap₂ ◌+◌ (ap (λ b. times * (if b then cost else 0)) (eqb-suc-zero event) ∙ mul-zero times)
     (value_same coefs (λ k. if suc event == suc k then cost else 0) (λ k. if event == k then cost else 0) (λ k. ap (λ b. if b then cost else 0) (eqb-suc-suc event k)) ∙ one_row coefs event cost)
-    ∙ no_more (slice_index coefs event * cost)
+    ∙ zero-add (slice_index coefs event * cost)
 
 row_where : (b : Bool) (coefs : List ℕ) (event cost : ℕ) → (if b then slice_index coefs event * cost else 0) ≡ value coefs (λ k. if b && (event == k) then cost else 0)
 row_where true coefs event cost = sym (one_row coefs event cost)

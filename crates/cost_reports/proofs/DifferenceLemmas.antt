@@ -1,5 +1,6 @@
 -- Differences: what their rows sum to, and the same backwards.
 use Rattle.std.proofs.Common.{inl, inr, ◌≡◌, ℕ, zero, suc, ◌+◌, ◌-◌, ◌==◌, ◌≤◌, nat_lt, Bool, true, false, not, ◌&&◌, ◌||◌, List, [], ◌∷◌, ◌++◌, map, drop, if◌then◌else◌, refl, sym, ap, ap₂, subst, ◌∙◌, arith}
+use Rattle.std.proofs.Math.Bool.{or_assoc}
 use Rattle.std.specs.declared.cmp.Ordering.{Ordering}
 use Rattle.std.specs.declared.cmp.Ordering.TheVariants.{Less, Equal, Greater}
 use Rattle.std.specs.List.{list_any, AllByRecursion}
@@ -53,14 +54,10 @@ keys_alone : (passes : Spot → Bool) (seconds : List (Spot × ℕ)) → list_an
 keys_alone passes [] = refl
 keys_alone passes (e ∷ seconds) = ap (λ b. passes e.0 || b) (keys_alone passes seconds)
 
-or_or : (a b d : Bool) → (a || (b || d)) ≡ ((a || b) || d)
-or_or true b d = refl
-or_or false b d = refl
-
 keys_where : (passes : Spot → Bool) (firsts seconds : List (Spot × ℕ)) → list_any passes (keys_of (map (on_side First) firsts ++ map (on_side Second) seconds)) ≡ (list_any passes (keys_of firsts) || list_any passes (keys_of seconds))
 keys_where passes [] seconds = keys_alone passes seconds
 keys_where passes (e ∷ firsts) seconds =
-    ap (λ b. passes e.0 || b) (keys_where passes firsts seconds) ∙ or_or (passes e.0) (list_any passes (keys_of firsts)) (list_any passes (keys_of seconds))
+    ap (λ b. passes e.0 || b) (keys_where passes firsts seconds) ∙ sym (or_assoc (passes e.0) (list_any passes (keys_of firsts)) (list_any passes (keys_of seconds)))
 
 -- ---- the sides exchanged
 

@@ -37,12 +37,6 @@ same_total xs ys moved = total_is_sum ys ∙ sum_by-IsPermutation cost_of xs ys 
 same_rank : (xs ys : List (Spot × ℕ)) → IsPermutation xs ys → ranked rank_cmp xs ≡ ranked rank_cmp ys
 same_rank = same_ranked rank_cmp-total rank_cmp-apart
 
--- sums in another order have the same report
-pub same_report : (key : Key) (cut : Cut) (a b : List (Spot × ℕ)) → IsPermutation a b → report_of key cut a ≡ report_of key cut b
-same_report key cut a b moved =
-    let report : ℕ → List (Spot × ℕ) → ReportByKey = λ total rows. (let shows = limited cut.limit (reaching (cut.threshold * total) 0 rows) in record { key = key; rows = shows; rest = total - total_of shows; total = total }) in
-    ap₂ report (sym (same_total a b moved)) (same_rank a b moved)
-
 -- ---- sums that cost more than others
 
 greater_first : (a b : Spot × ℕ) → b.1 < a.1 → is_lt (rank_cmp b a) ≡ false

@@ -1,5 +1,7 @@
 -- The frames of a stack, one after another, and the set of their functions.
 use Rattle.std.proofs.Common.{zero, suc, ◌≡◌, ℕ, ◌+◌, ◌*◌, ◌<◌, ◌≤◌, Bool, true, false, ◌&&◌, ◌||◌, cond, List, [], ◌∷◌, map, fold, length, take, drop, slice_index, refl, sym, ap, ◌∙◌, arith}
+use Rattle.std.proofs.lemmas.Bool.{false_from_ne_true}
+use Rattle.std.proofs.Math.Bool.{or-false}
 use Rattle.std.specs.declared.cmp.Ordering.{Ordering}
 use Rattle.std.specs.declared.cmp.Ordering.TheVariants.{Less, Equal, Greater}
 use Rattle.std.specs.Borrow.{Bor}
@@ -19,14 +21,10 @@ use Rattle.report_texts.specs.Inclusive.{functions_in, names_costs, names_in}
 
 -- ---- the first frame, and the others
 
-fails_at : (b : Bool) → (b ≡ true → ⊥) → b ≡ false
-fails_at true h = absurd (h refl)
-fails_at false h = refl
-
 pub no_more_frames : (xs : List ℕ) → Nowhere (Passes is_semicolon xs) 0 (length xs) → slice_split is_semicolon xs ≡ xs ∷ []
 no_more_frames [] none = refl
 no_more_frames (x ∷ xs) none =
-    slice_split-cons_no is_semicolon x xs (fails_at (is_semicolon x) (none 0 (omega arith) (omega arith)))
+    slice_split-cons_no is_semicolon x xs (false_from_ne_true (is_semicolon x) (none 0 (omega arith) (omega arith)))
     ∙ ap (onto_first x) (no_more_frames xs (λ k low high. none (suc k) (omega arith) (omega (arith, high))))
 
 frame_first : (xs : List ℕ) (k : ℕ) → k < length xs → Nowhere (Passes is_semicolon xs) 0 k → is_semicolon (slice_index xs k) ≡ true
@@ -34,7 +32,7 @@ frame_first : (xs : List ℕ) (k : ℕ) → k < length xs → Nowhere (Passes is
 frame_first [] k within none here = absurd (omega (arith, within))
 frame_first (x ∷ xs) zero within none here = slice_split-cons_yes is_semicolon x xs here
 frame_first (x ∷ xs) (suc k) within none here =
-    slice_split-cons_no is_semicolon x xs (fails_at (is_semicolon x) (none 0 (omega arith) (omega arith)))
+    slice_split-cons_no is_semicolon x xs (false_from_ne_true (is_semicolon x) (none 0 (omega arith) (omega arith)))
     ∙ ap (onto_first x) (frame_first xs k (omega (arith, within)) (λ j low high. none (suc j) (omega arith) (omega (arith, high))) here)
 
 pub functions_first : (xs : List ℕ) (k : ℕ) → k < length xs → Nowhere (Passes is_semicolon xs) 0 k → is_semicolon (slice_index xs k) ≡ true
@@ -122,12 +120,8 @@ total_in count frames =
 pub functions_last : (xs : List ℕ) → Nowhere (Passes is_semicolon xs) 0 (length xs) → functions_of xs ≡ function_of xs ∷ []
 functions_last xs none = ap (map function_of) (no_more_frames xs none)
 
-or_false : (b : Bool) → b || false ≡ b
-or_false true = refl
-or_false false = refl
-
 pub last_named : (p : List ℕ → Bool) (xs : List ℕ) → Nowhere (Passes is_semicolon xs) 0 (length xs) → list_any p (functions_of xs) ≡ p (function_of xs)
-last_named p xs none = ap (list_any p) (functions_last xs none) ∙ or_false (p (function_of xs))
+last_named p xs none = ap (list_any p) (functions_last xs none) ∙ or-false (p (function_of xs))
 
 -- the functions of another object are none of its own
 pub other_object : (object name : List ℕ) (names : List (List ℕ)) → bytes_eq object unknown ≡ false → list_any (λ n. bytes_eq unknown object && bytes_eq n name) names ≡ false

@@ -1,25 +1,27 @@
 -- What the inclusive costs say of one function.
 use Rattle.std.proofs.Common.{◌≡◌, ℕ, ◌+◌, Bool, true, false, not, ◌&&◌, ◌||◌, bytes_eq, if◌then◌else◌, List, [], ◌∷◌, ◌++◌, map, fold, refl, sym, ap, ap₂, subst, ◌∙◌, arith}
+use Rattle.std.proofs.Math.Nat.{zero-add}
+use Rattle.std.proofs.Math.Bool.{or-false}
 use Rattle.std.specs.declared.cmp.Ordering.{Ordering}
 use Rattle.std.specs.declared.cmp.Ordering.TheVariants.{Less, Equal, Greater}
 use Rattle.std.specs.BTreeSet.{insert_key}
 use Rattle.std.specs.List.{list_any, AllByRecursion}
 use Rattle.std.specs.List.Sorted.{IsStrictlySortedBy}
 use Rattle.std.specs.Map.{keys_of}
-use Rattle.std.specs.Ordering.{is_eq, match_ordering}
+use Rattle.std.specs.Ordering.{match_ordering}
 use Rattle.std.proofs.lemmas.Cmp.{tied_itself}
 use Rattle.std.proofs.lemmas.Map.Keys.{sorted_head, sorted_tail}
 use Rattle.cg_text.specs.Names.{unknown}
 use Rattle.profile_records.specs.Frames.{functions_of}
 use Rattle.profile_records.specs.Stacks.{Seen}
+use Rattle.std.proofs.lemmas.Map.Lookups.{exact_bytes}
 use Rattle.cost_rows.specs.KeySums.{cost_where, rows_of}
-use Rattle.cost_rows.specs.Merging.{merge, merge_all, sum_where, TellsApart}
+use Rattle.cost_rows.specs.Merging.{merge, merge_all, sum_where}
 use Rattle.cost_rows.specs.Stacks.{bytes_cmp, counts_added}
 use Rattle.cost_rows.specs.Sums.{Spot}
 use Rattle.cost_rows.specs.declared.keys.Key.TheVariants.{Function}
 use Rattle.cost_rows.proofs.MergeLemmas.{keys-merge_all, sorted-merge_all}
 use Rattle.cost_rows.proofs.NamingLemmas.{same_bytes}
-use Rattle.cost_rows.proofs.NumberedLemmas.{equal-bytes}
 use Rattle.cost_rows.proofs.StacksLemmas.{bytes_cmp-total}
 use Rattle.report_texts.specs.Calls.{Calls, all_calls}
 use Rattle.report_texts.specs.Costs.{EventRecords, all_costs}
@@ -29,9 +31,6 @@ use Rattle.cost_reports.proofs.InclusiveLemmas.{how_many, names_where, times}
 use Rattle.cost_reports.proofs.KeyLemmas.{rows_append, sums_cost, where_append}
 
 -- ---- each function of a stack once
-
-bytes_apart : TellsApart bytes_cmp
-bytes_apart a b h = equal-bytes a b (ap is_eq h)
 
 abbrev entries : List (List ℕ) → List (List ℕ × ℕ)
 entries names = map (λ name. (name, 0)) names
@@ -56,16 +55,12 @@ keys_entries : (names : List (List ℕ)) → keys_of (entries names) ≡ names
 keys_entries [] = refl
 keys_entries (name ∷ names) = ap (λ ks. name ∷ ks) (keys_entries names)
 
-or_none : (b : Bool) → (b || false) ≡ b
-or_none true = refl
-or_none false = refl
-
 any_in : (test : List ℕ → Bool) (frames : List ℕ) → list_any test (functions_in frames) ≡ list_any test (functions_of frames)
 any_in test frames =
     let names = functions_of frames in
     ap (list_any test) (keys_fold names [])
-    ∙ keys-merge_all bytes_apart counts_added test [] (entries names)
-    ∙ or_none (list_any test (keys_of (entries names)))
+    ∙ keys-merge_all exact_bytes counts_added test [] (entries names)
+    ∙ or-false (list_any test (keys_of (entries names)))
     ∙ ap (list_any test) (keys_entries names)
 
 sorted_in : (frames : List ℕ) → IsStrictlySortedBy bytes_cmp (functions_in frames)
@@ -80,9 +75,6 @@ module _ (f : Spot) where
 
   abbrev named : List ℕ → Bool
   named name = is_f (function_spot unknown name)
-
-  none_first : (n : ℕ) → n ≡ 0 + n
-  none_first n = omega arith
 
   both_named : (a b : List ℕ) (x : Bool) → (x && bytes_eq a f.function) ≡ true → (x && bytes_eq b f.function) ≡ true → bytes_eq a f.function ≡ true
   both_named a b true first second = first
@@ -107,7 +99,7 @@ module _ (f : Spot) where
     where
       go : (b : Bool) → named x ≡ b → how_many is_f xs ≡ (if list_any named xs then 1 else 0) → (if b then 1 else 0) + how_many is_f xs ≡ (if b || list_any named xs then 1 else 0)
       go true is rest = let none = none_named x xs is (sorted_head bytes_cmp x xs up) in omega (arith, none)
-      go false is rest = sym (none_first (how_many is_f xs)) ∙ rest
+      go false is rest = zero-add (how_many is_f xs) ∙ rest
 
   one_time : (b : Bool) (n : ℕ) → times (if b then 1 else 0) n ≡ (if b then n else 0)
   one_time true n = let e : n + 0 ≡ n = omega arith in e
@@ -136,7 +128,7 @@ module _ (f : Spot) where
     where
       go : (b : Bool) → cost_where Function is_f (rows_of (outward_costs calls)) ≡ outward_cost f calls
           → cost_where Function is_f (rows_of (if b then outward_costs calls else (c.caller, c.sum.first) ∷ outward_costs calls)) ≡ (if not b && is_f c.caller then c.sum.first else 0) + outward_cost f calls
-      go true rest = rest ∙ none_first (outward_cost f calls)
+      go true rest = rest ∙ sym (zero-add (outward_cost f calls))
       go false rest = ap (λ n. (if is_f c.caller then c.sum.first else 0) + n) rest
 
   pub costs_of_function : (files : List EventRecords) (seen : List Seen) → sum_where is_f (λ n. n) (inclusive_costs files seen).sums ≡ inclusive_cost f files seen

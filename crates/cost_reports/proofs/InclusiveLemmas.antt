@@ -1,5 +1,6 @@
 -- Rows that sum to records and stacks sum to their inclusive costs.
 use Rattle.std.proofs.Common.{zero, suc, pred, ◌≡◌, ℕ, ◌+◌, ◌≤◌, Bool, true, false, not, ◌&&◌, nat_lt, if◌then◌else◌, List, [], ◌∷◌, ◌++◌, map, slice_index, refl, sym, ap, ap₂, ◌∙◌, arith}
+use Rattle.std.proofs.Math.Nat.{zero-add}
 use Rattle.std.specs.List.{AllByRecursion}
 use Rattle.std.proofs.lemmas.Bool.{lt-ltb}
 use Rattle.cg_text.specs.Names.{unknown}
@@ -20,9 +21,6 @@ use Rattle.cost_reports.proofs.CostLemmas.{value, value_same, value_sum, value_n
 use Rattle.cost_reports.proofs.KeyLemmas.{same_by_key, total_by_key, total_of_rows, where_append, rows_append}
 
 -- ---- stacks, each as often as it weighs
-
-none_first : (n : ℕ) → n ≡ 0 + n
-none_first n = omega arith
 
 abbrev pub times : ℕ → ℕ → ℕ
 times zero n = 0
@@ -125,7 +123,7 @@ module _ (passes : Spot → Bool) where
       go : (b : Bool) → cost_where Function passes (rows_of (names_costs count names)) ≡ times (how_many names) count
           → (if b then count else 0) + cost_where Function passes (rows_of (names_costs count names)) ≡ times ((if b then 1 else 0) + how_many names) count
       go true rest = ap (λ n. count + n) rest ∙ ap (λ k. times k count) (let e : suc (how_many names) ≡ 1 + how_many names = omega arith in e)
-      go false rest = sym (none_first (cost_where Function passes (rows_of (names_costs count names)))) ∙ rest ∙ ap (λ k. times k count) (none_first (how_many names))
+      go false rest = zero-add (cost_where Function passes (rows_of (names_costs count names))) ∙ rest ∙ ap (λ k. times k count) (sym (zero-add (how_many names)))
 
   abbrev weight : List ℕ → ℕ
   weight frames = how_many (functions_in frames)
@@ -165,11 +163,11 @@ module _ (passes : Spot → Bool) where
       go : (b : Bool) → cost_where Function passes (rows_of (outward_costs calls)) ≡ outward_sum calls
           → cost_where Function passes (rows_of (if b then outward_costs calls else (c.caller, c.sum.first) ∷ outward_costs calls))
           ≡ (if not b && passes (function_spot c.caller.object c.caller.function) then c.sum.first else 0) + outward_sum calls
-      go true rest = rest ∙ none_first (outward_sum calls)
+      go true rest = rest ∙ sym (zero-add (outward_sum calls))
       go false rest = ap (λ n. (if passes (function_spot c.caller.object c.caller.function) then c.sum.first else 0) + n) rest
 
   sum_append : (xs ys : List Calls) → outward_sum (xs ++ ys) ≡ outward_sum xs + outward_sum ys
-  sum_append [] ys = none_first (outward_sum ys)
+  sum_append [] ys = sym (zero-add (outward_sum ys))
   sum_append (x ∷ xs) ys = let rest = sum_append xs ys in omega (arith, rest)
 
   edges_value : (coefs : List ℕ) (edges : List (ArcRow (List ℕ) (List ℕ))) → outward_sum (map (weighted_calls coefs) edges) ≡ value coefs (λ k. calls_cost outward k edges)

@@ -1,5 +1,6 @@
 -- Sums by key are told by what rows cost, for every test.
-use Rattle.std.proofs.Common.{◌≡◌, ℕ, ◌+◌, Bool, true, if◌then◌else◌, List, [], ◌∷◌, ◌++◌, sum_by, refl, sym, ap, ap₂, ◌∙◌, add_assoc, arith}
+use Rattle.std.proofs.Common.{◌≡◌, ℕ, ◌+◌, Bool, true, if◌then◌else◌, List, [], ◌∷◌, ◌++◌, sum_by, refl, sym, ap, ap₂, ◌∙◌, add_assoc}
+use Rattle.std.proofs.Math.Nat.{zero-add}
 use Rattle.std.proofs.lemmas.List.Sums.{sum_by-cons}
 use Rattle.std.specs.List.Sorted.{IsStrictlySortedBy}
 use Rattle.cost_rows.specs.Keys.{part_of, place_of_row}
@@ -13,11 +14,8 @@ use Rattle.cost_rows.proofs.KeysLemmas.{named_cmp-total, named_cmp-apart}
 use Rattle.cost_rows.proofs.KeySumsLemmas.{sums-rows, sums-are}
 use Rattle.cost_reports.proofs.SameSums.{same_sums}
 
-pub no_more : (n : ℕ) → 0 + n ≡ n
-no_more n = omega arith
-
 pub sums_cost : (key : Key) (passes : Spot → Bool) (rows : List (CellRow (List ℕ))) → sum_where passes (λ n. n) (sums_by key rows) ≡ cost_where key passes rows
-sums_cost key passes rows = sums-rows passes rows (record { key = key; sums = [] }) ∙ no_more (cost_where key passes rows)
+sums_cost key passes rows = sums-rows passes rows (record { key = key; sums = [] }) ∙ zero-add (cost_where key passes rows)
 
 are_sums : (key : Key) (rows : List (CellRow (List ℕ))) → AreSums (sums_by key rows)
 unfolding IsStrictlySortedBy
@@ -67,7 +65,7 @@ total_of_rows key sums = sums_cost key (λ _. true) (rows_of sums) ∙ rows_of_w
 -- ---- rows one after another
 
 pub where_append : (key : Key) (passes : Spot → Bool) (xs ys : List (CellRow (List ℕ))) → cost_where key passes (xs ++ ys) ≡ cost_where key passes xs + cost_where key passes ys
-where_append key passes [] ys = sym (no_more (cost_where key passes ys))
+where_append key passes [] ys = sym (zero-add (cost_where key passes ys))
 where_append key passes (x ∷ xs) ys =
     let here : ℕ = if passes (part_of key (place_of_row x)) then x.cost else 0 in
     ap (λ n. here + n) (where_append key passes xs ys) ∙ sym (add_assoc here (cost_where key passes xs) (cost_where key passes ys))

@@ -14,7 +14,6 @@ pub mod RankLemmas
 pub mod RowLemmas
 pub mod SameSums
 mod StepLemmas
-pub mod WrittenLemmas
 mod CallExamples
 mod DifferenceExamples
 mod Examples

@@ -1,5 +1,7 @@
 -- What pairs that are added up by place sum to.
-use Rattle.std.proofs.Common.{inl, inr, ◌≡◌, ℕ, ◌+◌, ◌≤◌, zero, suc, Bool, true, false, ◌||◌, List, [], ◌∷◌, Some, refl, ap, ap₂, ◌∙◌, arith}
+use Rattle.std.proofs.Common.{inl, inr, ◌≡◌, ℕ, ◌≤◌, zero, suc, Bool, true, List, [], ◌∷◌, Some, refl, ap, ap₂, ◌∙◌, arith}
+use Rattle.std.proofs.Math.Nat.{zero-add}
+use Rattle.std.proofs.Math.Bool.{or-false}
 use Rattle.std.specs.List.{list_any}
 use Rattle.std.specs.List.Sorted.{IsStrictlySortedBy}
 use Rattle.std.specs.Map.{lookup, keys_of}
@@ -44,20 +46,14 @@ pair_least measure test (e ∷ es) held found = elim (cases_Bool (test e.0)) [
       omega (arith, least)
 ]
 
-none_before : (n : ℕ) → 0 + n ≡ n
-none_before n = omega arith
-
 -- sums by place are those of what was added, for every test of places
 pub firsts_by : (passes : Spot → Bool) (amounts : List (Spot × Pair)) → sum_where passes (λ (p : Pair). p.first) (pairs_by amounts) ≡ sum_where passes (λ (p : Pair). p.first) amounts
 firsts_by passes amounts =
-    sum-merge_all named_cmp-apart pairs_added passes (λ (p : Pair). p.first) (λ x y. refl) [] amounts ∙ none_before (sum_where passes (λ (p : Pair). p.first) amounts)
+    sum-merge_all named_cmp-apart pairs_added passes (λ (p : Pair). p.first) (λ x y. refl) [] amounts ∙ zero-add (sum_where passes (λ (p : Pair). p.first) amounts)
 
 pub seconds_by : (passes : Spot → Bool) (amounts : List (Spot × Pair)) → sum_where passes (λ (p : Pair). p.second) (pairs_by amounts) ≡ sum_where passes (λ (p : Pair). p.second) amounts
 seconds_by passes amounts =
-    sum-merge_all named_cmp-apart pairs_added passes (λ (p : Pair). p.second) (λ x y. refl) [] amounts ∙ none_before (sum_where passes (λ (p : Pair). p.second) amounts)
-
-pub total_by : (amounts : List (Spot × Pair)) → pair_total (pairs_by amounts) ≡ pair_total amounts
-total_by amounts = ap₂ pair (firsts_by (λ _. true) amounts) (seconds_by (λ _. true) amounts)
+    sum-merge_all named_cmp-apart pairs_added passes (λ (p : Pair). p.second) (λ x y. refl) [] amounts ∙ zero-add (sum_where passes (λ (p : Pair). p.second) amounts)
 
 -- each place stands once, in order
 pub sorted_by : (amounts : List (Spot × Pair)) → IsStrictlySortedBy named_cmp (keys_of (pairs_by amounts))
@@ -65,8 +61,4 @@ unfolding IsStrictlySortedBy
 sorted_by amounts = sorted-merge_all named_cmp-total pairs_added [] amounts tt
 
 pub keys_by : (passes : Spot → Bool) (amounts : List (Spot × Pair)) → list_any passes (keys_of (pairs_by amounts)) ≡ list_any passes (keys_of amounts)
-keys_by passes amounts = keys-merge_all named_cmp-apart pairs_added passes [] amounts ∙ or_none (list_any passes (keys_of amounts))
-  where
-    or_none : (b : Bool) → (b || false) ≡ b
-    or_none true = refl
-    or_none false = refl
+keys_by passes amounts = keys-merge_all named_cmp-apart pairs_added passes [] amounts ∙ or-false (list_any passes (keys_of amounts))

@@ -1,5 +1,5 @@
 -- The order of rows, and the rows of sums.
-use Rattle.std.proofs.Common.{◌≡◌, ℕ, Bool, true, false, List, [], ◌∷◌, map, refl, sym, ap, ap₂}
+use Rattle.std.proofs.Common.{◌≡◌, ℕ, Bool, true, false, refl, sym, ap₂}
 use Rattle.std.specs.Cmp.{IsTotalOrder, nat_cmp_total, bool_cmp_total}
 use Rattle.std.specs.Ordering.{nat_cmp, bool_cmp}
 use Rattle.std.specs.declared.cmp.Ordering.TheVariants.{Equal}
@@ -7,7 +7,6 @@ use Rattle.std.proofs.lemmas.Cmp.{then_total, on_total, back_total}
 use Rattle.std.proofs.lemmas.Map.Lookups.{exact_unsigned}
 use Rattle.cost_rows.specs.Sums.{Spot}
 use Rattle.cost_rows.specs.Keys.{named_cmp}
-use Rattle.cost_rows.specs.KeySums.{rows_of}
 use Rattle.cost_rows.proofs.KeysLemmas.{named_cmp-total, named_cmp-apart}
 use Rattle.cost_rows.proofs.PlacesLemmas.{both_equal}
 use Rattle.report_texts.specs.Calls.{call_cmp}
@@ -15,7 +14,6 @@ use Rattle.report_texts.specs.Differences.{difference_cmp}
 use Rattle.report_texts.specs.KeyReports.{rank_cmp}
 use Rattle.report_texts.specs.declared.pairs.Pair.{Pair}
 use Rattle.report_texts.specs.declared.signed.Signed.{Signed}
-use Rattle.cost_reports.specs.Rows.{sum_of_row}
 
 pub rank_cmp-total : IsTotalOrder rank_cmp
 rank_cmp-total = then_total (on_total (λ (e : Spot × ℕ). e.1) (back_total nat_cmp_total)) (on_total (λ (e : Spot × ℕ). e.0) named_cmp-total)
@@ -66,8 +64,3 @@ call_cmp-apart a b h =
     let count : a.1.second ≡ b.1.second = exact_unsigned a.1.second b.1.second second.1 in
     let sum : ℕ → ℕ → Pair = λ m n. record { first = m; second = n } in
     ap₂ entry part (ap₂ sum cost count)
-
--- sums as rows, and back
-pub sums_of_rows : (sums : List (Spot × ℕ)) → map sum_of_row (rows_of sums) ≡ sums
-sums_of_rows [] = refl
-sums_of_rows (e ∷ sums) = ap (λ rest. e ∷ rest) (sums_of_rows sums)

@@ -7,7 +7,7 @@ use Rattle.std.specs.List.Sorted.{IsStrictlySortedBy}
 use Rattle.std.specs.Map.{keys_of}
 use Rattle.std.proofs.lemmas.Grind.{fold-append}
 use Rattle.std.proofs.lemmas.Map.Keys.{sorted_head, sorted_tail}
-use Rattle.cost_rows.specs.Keys.{named_cmp}
+use Rattle.cost_rows.specs.Keys.{lent_place, named_cmp}
 use Rattle.cost_rows.specs.Merging.{merge, merge_all}
 use Rattle.cost_rows.specs.Sums.{Spot}
 use Rattle.cost_rows.proofs.KeysLemmas.{named_cmp-total, named_cmp-apart}
@@ -18,7 +18,7 @@ use Rattle.report_texts.specs.declared.differences.Side.TheVariants.{First, Seco
 use Rattle.report_texts.specs.declared.pairs.Pair.{Pair}
 use Rattle.report_texts.specs.declared.signed.Signed.{Signed}
 use Rattle.cost_reports.specs.InStep.{from_row, left_of, ComesNext, IsAlone, IsInOrder}
-use Rattle.cost_reports.specs.Rows.{lent_place, plain_row}
+use Rattle.cost_reports.specs.Rows.{plain_row}
 use Rattle.cost_reports.specs.declared.differences.Next.{Next}
 use Rattle.cost_reports.specs.declared.rows.Row.{Row}
 

@@ -2,12 +2,12 @@
 use Rattle.std.specs.Prelude.{◌≡◌, ℕ, Bool, true, false, List, [], ◌∷◌, Option, Some, None}
 use Rattle.std.specs.List.Sorted.{IsStrictlySortedBy}
 use Rattle.std.specs.Map.{keys_of}
-use Rattle.cost_rows.specs.Keys.{named_cmp}
+use Rattle.cost_rows.specs.Keys.{lent_place, named_cmp}
 use Rattle.cost_rows.specs.Sums.{Spot}
 use Rattle.report_texts.specs.Differences.{beside, pair_on}
 use Rattle.report_texts.specs.declared.differences.Side.{Side}
 use Rattle.report_texts.specs.declared.differences.Side.TheVariants.{First, Second}
-use Rattle.cost_reports.specs.Rows.{lent_place, plain_row}
+use Rattle.cost_reports.specs.Rows.{plain_row}
 use Rattle.cost_reports.specs.declared.differences.Next.{Next}
 use Rattle.cost_reports.specs.declared.rows.Row.{Row}
 

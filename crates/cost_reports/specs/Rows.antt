@@ -1,10 +1,11 @@
 -- The rows of reports as the code holds them, and as merged rows give them.
 use Rattle.std.specs.Prelude.{ℕ, ◌*◌, List, map}
 use Rattle.std.specs.Borrow.{Bor}
-use Rattle.cost_rows.specs.Keys.{place_of_row}
+use Rattle.cost_rows.specs.Keys.{lent_place, place_of_row}
 use Rattle.cost_rows.specs.Merging.{seen}
 use Rattle.cost_rows.specs.Plain.{plain_cell}
 use Rattle.cost_rows.specs.Sums.{Spot}
+use Rattle.cost_rows.specs.declared.keys.LentPlace.{LentPlace}
 use Rattle.cost_rows.specs.declared.rows.CellRow.{CellRow}
 use Rattle.report_texts.specs.KeyReports.{rank_cmp, reaching, limited}
 use Rattle.report_texts.specs.Ranking.{ranked}
@@ -12,14 +13,10 @@ use Rattle.report_texts.specs.Verifying.{Checked}
 use Rattle.report_texts.specs.declared.cuts.Cut.{Cut}
 use Rattle.report_texts.specs.declared.pairs.Pair.{Pair}
 use Rattle.report_texts.specs.declared.signed.Signed.{Signed}
-use Rattle.cost_reports.specs.declared.places.LentPlace.{LentPlace}
 use Rattle.cost_reports.specs.declared.rows.CallRow.{CallRow}
 use Rattle.cost_reports.specs.declared.rows.DifferenceRow.{DifferenceRow}
 use Rattle.cost_reports.specs.declared.rows.Row.{Row}
 use Rattle.cost_reports.specs.declared.verifying.Check.{Check}
-
-abbrev pub lent_place : LentPlace → Spot
-lent_place p = record { object = p.object.now; file = p.file.now; function = p.function.now; line = p.line; thread = p.thread }
 
 -- sums and pairs of sums by places
 abbrev pub lent_sums : List (LentPlace × ℕ) → List (Spot × ℕ)

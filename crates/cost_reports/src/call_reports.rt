@@ -1,15 +1,16 @@
 // Who calls a function, and whom it calls.
 ghost use Rattle.std.specs.Prelude.{◌≡◌, ◌+◌, ◌<◌, ◌^◌, [], OnOk, OnErr, IfOk};
+ghost use Rattle.cost_rows.specs.Keys.{lent_place};
 ghost use Rattle.report_texts.specs.Calls.{call_cmp, call_report_of, calls_of_row, with_calls};
 ghost use Rattle.report_texts.specs.Functions.{function_spot, is_one_function};
 ghost use Rattle.report_texts.specs.Pairs.{firsts_of, seconds_of, AreBelow};
 ghost use Rattle.report_texts.specs.Ranking.{ranked};
-ghost use Rattle.cost_reports.specs.Rows.{lent_place, plain_calls};
+ghost use Rattle.cost_reports.specs.Rows.{plain_calls};
 
 use crate::pair_sums::PairSums;
-use crate::places::{LentPlace, function_place};
+use crate::places::function_place;
 use crate::rows::CallRow;
-use cost_rows::ArcRow;
+use cost_rows::{ArcRow, LentPlace};
 use report_texts::{CallSide, Pair};
 use std::alloc::{AllocError, Global};
 use std::cmp::Reverse;
@@ -25,8 +26,8 @@ pub struct CallSums<'n> {
 }
 
 impl<'n> Model for CallSums<'n> {
+    ghost use Rattle.cost_rows.specs.Keys.{lent_place};
     ghost use Rattle.report_texts.specs.Calls.{CallsOfFunction};
-    ghost use Rattle.cost_reports.specs.Rows.{lent_place};
 
     ghost Value = { CallsOfFunction };
 
@@ -107,8 +108,9 @@ pub struct CallReport<'a> {
 }
 
 impl<'a> Model for CallReport<'a> {
+    ghost use Rattle.cost_rows.specs.Keys.{lent_place};
     ghost use Rattle.report_texts.specs.Calls.{RankedCalls};
-    ghost use Rattle.cost_reports.specs.Rows.{lent_place, plain_calls};
+    ghost use Rattle.cost_reports.specs.Rows.{plain_calls};
 
     ghost Value = { RankedCalls };
 

@@ -2,14 +2,14 @@
 ghost use Rattle.std.specs.Prelude.{◌≡◌, ◌≤◌, OnOk, IfOk, codes, length};
 ghost use Rattle.report_texts.specs.Calls.{side_name, pair_text, call_line, call_row_text, call_lines, call_head, call_report_text};
 ghost use Rattle.shared_texts.specs.Written.{GoesOn};
-ghost use Rattle.cost_reports.specs.Rows.{lent_place, plain_call, plain_calls};
+ghost use Rattle.cost_rows.specs.Keys.{lent_place};
+ghost use Rattle.cost_reports.specs.Rows.{plain_call, plain_calls};
 
 use crate::call_reports::CallReport;
 use crate::key_texts::push_last_part;
 use crate::numbers::push_number;
-use crate::places::LentPlace;
 use crate::rows::CallRow;
-use cost_rows::Key;
+use cost_rows::{Key, LentPlace};
 use report_texts::{CallSide, Pair};
 use shared_texts::{SharedText, TextWriter};
 use std::alloc::{AllocError, Global};

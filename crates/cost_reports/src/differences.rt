@@ -1,16 +1,16 @@
 // What rows cost less what other rows cost, by key.
 ghost use Rattle.std.specs.Prelude.{◌≡◌, ◌++◌, ◌∷◌, [], ℕ, List, OnOk, IfOk, map};
 ghost use Rattle.cost_rows.specs.Sums.{Spot};
+ghost use Rattle.cost_rows.specs.Keys.{lent_place};
 ghost use Rattle.report_texts.specs.Differences.{beside, difference_of, differing, difference_cmp, pair_on};
 ghost use Rattle.report_texts.specs.Ranking.{ranked};
 ghost use Rattle.cost_reports.specs.InStep.{from_row, ComesNext, IsAlone, IsInOrder};
-ghost use Rattle.cost_reports.specs.Rows.{lent_place, lent_sums, plain_differences};
+ghost use Rattle.cost_reports.specs.Rows.{lent_sums, plain_differences};
 
 use crate::lent_sums::LentSums;
-use crate::places::LentPlace;
 use crate::rows::{DifferenceRow, Row};
 use crate::signed::less;
-use cost_rows::Key;
+use cost_rows::{Key, LentPlace};
 use report_texts::{Pair, Side, Signed};
 use std::alloc::{AllocError, Global};
 use std::cmp::{Ordering, Reverse};

@@ -1,37 +1,16 @@
 // Rows whose names are lent, added up by key.
 ghost use Rattle.std.specs.Prelude.{◌≡◌, ◌+◌, ◌<◌, ◌^◌, [], OnOk, OnErr, length};
-ghost use Rattle.std.specs.BTreeMap.{IsUnchanged};
-ghost use Rattle.cost_rows.specs.KeySums.{sums_with, total_of, with_row};
+ghost use Rattle.cost_rows.specs.KeySums.{total_of, with_row};
 ghost use Rattle.cost_rows.specs.Plain.{plain_cell};
+ghost use Rattle.cost_rows.specs.Keys.{lent_place};
 ghost use Rattle.cost_reports.specs.InStep.{IsInOrder};
-ghost use Rattle.cost_reports.specs.Rows.{lent_place, lent_sums};
+ghost use Rattle.cost_reports.specs.Rows.{lent_sums};
 
-use crate::places::{LentPlace, part_of_row};
-use cost_rows::{CellRow, Key};
+use cost_rows::{CellRow, Key, LentPlace, merge_cost};
 use std::alloc::{AllocError, Global};
 use std::collections::BTreeMap;
 use std::collections::btree_map::Iter;
 use std::marker::Model;
-
-/// Merges a cost into the sum of a place. A refusal leaves the sums as they were.
-fn merge_cost<'n>(
-    sums: &mut BTreeMap<LentPlace<'n>, u128>,
-    place: LentPlace<'n>,
-    cost: u128,
-) -> Result<(), AllocError>
-    requires small { total_of (lent_sums sums.old.entries) + cost < 2 ^ 128 }
-    ensures ok { OnOk result (lent_sums sums.new.entries ≡ sums_with (lent_place place.entry) cost (lent_sums sums.old.entries)) }
-    ensures total { OnOk result (total_of (lent_sums sums.new.entries) ≡ total_of (lent_sums sums.old.entries) + cost) }
-    ensures err { OnErr result (IsUnchanged sums.old sums.new) }
-{
-    match sums.get_mut(&place) {
-        Some(sum) => *sum += cost,
-        None => {
-            sums.insert(place, cost)?;
-        }
-    }
-    Ok(())
-}
 
 /// Rows whose names are lent, added up by a key: contracts see the key, and a sum above 0 for each part of a place that
 /// it tells, in the order of the names' bytes, the line and the thread. A sum takes the same memory whatever its names.
@@ -99,8 +78,7 @@ impl<'n> LentSums<'n> {
         if row.cost == 0 {
             return Ok(());
         }
-        let place = part_of_row(self.key, row);
-        merge_cost(&mut self.sums, place, row.cost)?;
+        merge_cost(&mut self.sums, self.key.part(row), row.cost)?;
         self.total += row.cost;
         Ok(())
     }

@@ -46,6 +46,7 @@ mod signed;
 mod verifying;
 
 pub use call_reports::{CallReport, CallSums, calls};
+pub use cost_rows::LentPlace;
 pub use differences::{Difference, subtract};
 pub use frames::{functions_in, is_frame};
 pub use inclusives::{FrameSums, InclusiveReport, InclusiveSums, inclusive};
@@ -58,7 +59,7 @@ pub use laws::{
 };
 pub use lengths::{check_length, whole_text};
 pub use lent_sums::LentSums;
-pub use places::LentPlace;
+pub use numbers::push_number;
 pub use report_texts::{CallSide, Cut, Pair, Signed};
 pub use rows::{CallRow, DifferenceRow, Row};
 pub use verifying::{Check, Verification, verify};

@@ -6,7 +6,7 @@ use itoa::Buffer;
 use std::alloc::AllocError;
 
 /// Adds a number in decimal. Its digits take no memory of their own.
-pub(crate) fn push_number(text: &mut Vec<u8>, number: u128) -> Result<(), AllocError>
+pub fn push_number(text: &mut Vec<u8>, number: u128) -> Result<(), AllocError>
     ensures { OnOk result (text.new.items ≡ text.old.items ++ decimal number) }
 {
     let mut digits = Buffer::new();

@@ -1,11 +1,12 @@
 // Pairs of numbers, added up by place.
 ghost use Rattle.std.specs.Prelude.{◌≡◌, ◌+◌, ◌<◌, ◌^◌, [], OnOk, OnErr, length};
 ghost use Rattle.std.specs.BTreeMap.{IsUnchanged};
+ghost use Rattle.cost_rows.specs.Keys.{lent_place};
 ghost use Rattle.report_texts.specs.Pairs.{pairs_with, pairs_added, pair_total, firsts_of, seconds_of, AreBelow};
-ghost use Rattle.cost_reports.specs.Rows.{lent_place, lent_pairs};
+ghost use Rattle.cost_reports.specs.Rows.{lent_pairs};
 
 use crate::pairs::plus;
-use crate::places::LentPlace;
+use cost_rows::LentPlace;
 use report_texts::Pair;
 use std::alloc::{AllocError, Global};
 use std::collections::BTreeMap;

@@ -1,8 +1,9 @@
 // The rows of reports: a number first, by which they are ranked, and the part of a place.
 ghost use Rattle.std.specs.Prelude.{◌≡◌};
-ghost use Rattle.cost_reports.specs.Rows.{lent_place, plain_call, plain_difference, plain_row};
+ghost use Rattle.cost_rows.specs.Keys.{lent_place};
+ghost use Rattle.cost_reports.specs.Rows.{plain_call, plain_difference, plain_row};
 
-use crate::places::LentPlace;
+use cost_rows::LentPlace;
 use report_texts::{Pair, Signed};
 use std::cmp::Reverse;
 

@@ -1,5 +1,5 @@
 -- Names that grow at their end keep those before, and their places.
-use Rattle.std.proofs.Common.{◌≡◌, inl, inr, ℕ, suc, List, [], ◌∷◌, ◌++◌, length, take, Some, unwrap_or, Result, Ok, Err, refl, sym, ap, ◌∙◌, append_assoc, append-nil}
+use Rattle.std.proofs.Common.{◌≡◌, inl, inr, ℕ, suc, List, [], ◌∷◌, ◌++◌, Some, unwrap_or, Result, Ok, Err, refl, sym, ap, ◌∙◌, append_assoc, append-nil}
 use Rattle.std.specs.Str.{bytes_eq}
 use Rattle.std.proofs.lemmas.Bool.{cases_Bool}
 use Rattle.cost_rows.specs.Naming.{further, place_of, with_name, GivesNumber}
@@ -31,13 +31,6 @@ grows-after (Ok n) old new name gives =
     let more = grows-with old name in
     (more.0, gives.1 ∙ more.1)
 grows-after (Err e) old new name same = grows-same old new same
-
-pub take-grows : (old new : List (List ℕ)) → Grows old new → take (length old) new ≡ old
-take-grows old new grows = ap (take (length old)) grows.1 ∙ front old grows.0
-  where
-    front : (xs ys : List (List ℕ)) → take (length xs) (xs ++ ys) ≡ xs
-    front [] ys = refl
-    front (x ∷ xs) ys = ap (λ zs. x ∷ zs) (front xs ys)
 
 number-kept : (names : List (List ℕ)) (name new : List ℕ) (n : ℕ) → place_of name names ≡ Some n → number_of name (with_name new names) ≡ n
 number-kept names name new n h = ap (λ o. unwrap_or o 0) (place-kept names name new n h)

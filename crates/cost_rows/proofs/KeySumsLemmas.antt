@@ -1,24 +1,15 @@
 -- What rows of many files add up to.
-use Rattle.std.proofs.Common.{zero, suc, inl, inr, ◌≡◌, ℕ, ◌+◌, ◌<◌, Bool, true, false, List, [], ◌∷◌, fold, nat_eq, if◌then◌else◌, refl, ap, ◌∙◌, add_assoc, arith}
-use Rattle.std.specs.declared.cmp.Ordering.{Ordering}
-use Rattle.std.specs.declared.cmp.Ordering.TheVariants.{Less, Equal, Greater}
-use Rattle.std.specs.Ordering.{match_ordering}
-use Rattle.std.specs.List.{AllByRecursion}
-use Rattle.std.specs.Map.{values_of}
-use Rattle.std.proofs.lemmas.Bool.{cases_Bool, eqb-true}
+use Rattle.std.proofs.Common.{inl, inr, ◌≡◌, ℕ, ◌+◌, Bool, true, List, [], ◌∷◌, fold, nat_eq, if◌then◌else◌, refl, ap, ◌∙◌, add_assoc, arith}
+use Rattle.std.proofs.lemmas.Bool.{cases_Bool, ne_eqb}
 use Rattle.cost_rows.specs.Sums.{Spot}
 use Rattle.cost_rows.specs.Keys.{named_cmp, part_of, place_of_row}
 use Rattle.cost_rows.specs.Merging.{merge, sum_where}
 use Rattle.cost_rows.specs.Stacks.{counts_added}
-use Rattle.cost_rows.specs.KeySums.{AreSums, Sums, with_row, total_of, cost_where}
+use Rattle.cost_rows.specs.KeySums.{AreSums, Sums, sums_with, with_row, total_of, cost_where}
 use Rattle.cost_rows.specs.declared.keys.Key.{Key}
 use Rattle.cost_rows.specs.declared.rows.CellRow.{CellRow}
 use Rattle.cost_rows.proofs.KeysLemmas.{named_cmp-total, named_cmp-apart}
-use Rattle.cost_rows.proofs.MergeLemmas.{sum-merge, sorted-merge}
-
-nothing : (b : Bool) (cost : ℕ) → nat_eq cost 0 ≡ true → (if b then cost else 0) ≡ 0
-nothing true cost h = eqb-true cost 0 h
-nothing false cost h = refl
+use Rattle.cost_rows.proofs.MergeLemmas.{above-merge, nothing, positive, sum-merge, sorted-merge}
 
 sum-row : (key : Key) (passes : Spot → Bool) (sums : List (Spot × ℕ)) (row : CellRow (List ℕ))
     → (sum_where passes (λ n. n) (with_row (record { key = key; sums = sums }) row).sums ≡ sum_where passes (λ n. n) sums + (if passes (part_of key (place_of_row row)) then row.cost else 0)) × ((with_row (record { key = key; sums = sums }) row).key ≡ key)
@@ -36,26 +27,12 @@ sums-rows passes (row ∷ rows) s =
     ∙ ap (λ k. (sum_where passes (λ n. n) s.sums + (if passes (part_of s.key (place_of_row row)) then row.cost else 0)) + cost_where k passes rows) one.1
     ∙ add_assoc (sum_where passes (λ n. n) s.sums) (if passes (part_of s.key (place_of_row row)) then row.cost else 0) (cost_where s.key passes rows)
 
-above-step : (key : Spot) (cost : ℕ) (e : Spot × ℕ) (es : List (Spot × ℕ)) (r : Ordering) → 0 < cost → AllByRecursion (λ n. 0 < n) (values_of (e ∷ es)) → AllByRecursion (λ n. 0 < n) (values_of (merge named_cmp counts_added es key cost))
-    → AllByRecursion (λ n. 0 < n) (values_of (match_ordering r ((key, cost) ∷ e ∷ es) ((e.0, counts_added e.1 cost) ∷ es) (e ∷ merge named_cmp counts_added es key cost)))
-above-step key cost e es Less some all rest = (some, all)
-above-step key cost e es Equal some all rest = ((omega (arith, some)), all.1)
-above-step key cost e es Greater some all rest = (all.0, rest)
-
-above-merge : (es : List (Spot × ℕ)) (key : Spot) (cost : ℕ) → 0 < cost → AllByRecursion (λ n. 0 < n) (values_of es) → AllByRecursion (λ n. 0 < n) (values_of (merge named_cmp counts_added es key cost))
-above-merge [] key cost some all = (some, tt)
-above-merge (e ∷ es) key cost some all = above-step key cost e es (named_cmp key e.0) some all (above-merge es key cost some all.1)
-
-positive : (n : ℕ) → nat_eq n 0 ≡ false → 0 < n
-positive zero h = cc
-positive (suc n) h = omega arith
-
 sums-row : (s : Sums) (row : CellRow (List ℕ)) → AreSums s.sums → AreSums (with_row s row).sums
 sums-row s row are = elim (cases_Bool (nat_eq row.cost 0)) [
   | inl none ↦ rw none are
   | inr some ↦ rw some (record {
     order = sorted-merge named_cmp-total counts_added s.sums (part_of s.key (place_of_row row)) row.cost are.order;
-    above = above-merge s.sums (part_of s.key (place_of_row row)) row.cost (positive row.cost some) are.above;
+    above = above-merge named_cmp s.sums (part_of s.key (place_of_row row)) row.cost (positive row.cost some) are.above;
   })
 ]
 
@@ -66,3 +43,7 @@ sums-are (row ∷ rows) s are = sums-are rows (with_row s row) (sums-row s row a
 -- the sum of all grows by what is merged
 pub total-merge : (new old : List (Spot × ℕ)) (part : Spot) (cost : ℕ) → new ≡ merge named_cmp counts_added old part cost → total_of new ≡ total_of old + cost
 total-merge new old part cost e = ap total_of e ∙ sum-merge named_cmp-apart counts_added (λ _. true) (λ n. n) (λ x y. refl) old part cost
+
+-- a row's cost, added at its part
+pub row-with : (s : Sums) (row : CellRow (List ℕ)) (new : List (Spot × ℕ)) → (row.cost ≡ 0 → ⊥) → new ≡ sums_with (part_of s.key (place_of_row row)) row.cost s.sums → record { key = s.key; sums = new } ≡ with_row s row
+row-with s row new some is = rw (ne_eqb row.cost 0 some) (ap (λ sums. record { key = s.key; sums = sums }) is)

@@ -2,14 +2,13 @@
 use Rattle.std.proofs.Common.{◌≡◌, ℕ, List, ap, ◌∙◌}
 use Rattle.std.specs.Cmp.{IsTotalOrder, nat_cmp_total}
 use Rattle.std.specs.Cmp.Lexicographic.{nat_list_cmp_total}
-use Rattle.std.specs.Ordering.{nat_cmp, is_eq}
+use Rattle.std.specs.Ordering.{nat_cmp}
 use Rattle.std.proofs.lemmas.Cmp.{then_total, on_total}
-use Rattle.std.proofs.lemmas.Map.Lookups.{exact_unsigned}
+use Rattle.std.proofs.lemmas.Map.Lookups.{exact_bytes, exact_unsigned}
 use Rattle.cost_rows.specs.Sums.{Spot}
 use Rattle.cost_rows.specs.Keys.{named_cmp}
 use Rattle.cost_rows.specs.Merging.{TellsApart}
 use Rattle.cost_rows.specs.Stacks.{bytes_cmp}
-use Rattle.cost_rows.proofs.NumberedLemmas.{equal-bytes}
 use Rattle.cost_rows.proofs.PlacesLemmas.{both_equal}
 
 pub named_cmp-total : IsTotalOrder named_cmp
@@ -32,5 +31,5 @@ named_cmp-apart a b h =
     let second = both_equal (bytes_cmp a.file b.file) _ first.1 in
     let third = both_equal (bytes_cmp a.function b.function) _ second.1 in
     let fourth = both_equal (nat_cmp a.line b.line) (nat_cmp a.thread b.thread) third.1 in
-    same_named a b (equal-bytes a.object b.object (ap is_eq first.0)) (equal-bytes a.file b.file (ap is_eq second.0))
-    (equal-bytes a.function b.function (ap is_eq third.0)) (exact_unsigned a.line b.line fourth.0) (exact_unsigned a.thread b.thread fourth.1)
+    same_named a b (exact_bytes a.object b.object first.0) (exact_bytes a.file b.file second.0)
+    (exact_bytes a.function b.function third.0) (exact_unsigned a.line b.line fourth.0) (exact_unsigned a.thread b.thread fourth.1)

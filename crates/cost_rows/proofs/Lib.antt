@@ -18,7 +18,9 @@ pub mod WalkSumsLemmas
 pub mod SeenLemmas
 pub mod KeysLemmas
 pub mod KeySumsLemmas
+pub mod OwnLemmas
 pub mod SlotsLemmas
 pub mod StretchLemmas
 pub mod CallsLemmas
 pub mod StackCountsLemmas
+pub mod KnownLemmas

@@ -1,15 +1,17 @@
 -- What merging keeps: the order of the keys, which keys there are, and each sum.
-use Rattle.std.proofs.Common.{◌≡◌, ℕ, ◌+◌, Bool, true, false, ◌||◌, cond, List, [], ◌∷◌, Option, Some, None, unwrap_or, if◌then◌else◌, refl, sym, ap, ◌∙◌, arith, add_assoc}
+use Rattle.std.proofs.Common.{◌≡◌, ℕ, zero, suc, ◌+◌, ◌<◌, nat_eq, Bool, true, false, ◌||◌, cond, List, [], ◌∷◌, Option, Some, None, unwrap_or, if◌then◌else◌, refl, sym, ap, ◌∙◌, arith, add_assoc}
 use Rattle.std.specs.declared.cmp.Ordering.{Ordering}
 use Rattle.std.specs.declared.cmp.Ordering.TheVariants.{Less, Equal, Greater}
 use Rattle.std.specs.Cmp.{IsTotalOrder}
 use Rattle.std.specs.Ordering.{match_ordering, is_eq, ordering_reverse}
 use Rattle.std.specs.List.{list_any, AllByRecursion}
 use Rattle.std.specs.List.Sorted.{IsStrictlySortedBy}
-use Rattle.std.specs.Map.{lookup, keys_of, set_value}
+use Rattle.std.specs.Map.{lookup, keys_of, values_of, set_value}
 use Rattle.std.specs.BTreeMap.{BTreeMap, is_at, insert_entry, WritesThrough}
+use Rattle.std.proofs.lemmas.Bool.{eqb-true}
 use Rattle.std.proofs.lemmas.Map.Keys.{sorted_head, sorted_tail}
 use Rattle.cost_rows.specs.Merging.{merge, merge_all, sum_where, TellsApart}
+use Rattle.cost_rows.specs.Stacks.{counts_added}
 
 -- ---- sums
 
@@ -44,6 +46,28 @@ module _ {K X : Type 0} {cmp : K → K → Ordering} (exact : TellsApart cmp) (a
       sum-merge_all (merge cmp add entries a.0 a.1) amounts
       ∙ ap (λ n. n + sum_where passes measure amounts) (sum-merge entries a.0 a.1)
       ∙ add_assoc (sum_where passes measure entries) (counts a.0 a.1) (sum_where passes measure amounts)
+
+-- ---- amounts above 0
+
+-- an amount of 0 counts for nothing
+pub nothing : (b : Bool) (n : ℕ) → nat_eq n 0 ≡ true → (if b then n else 0) ≡ 0
+nothing true n h = eqb-true n 0 h
+nothing false n h = refl
+
+pub positive : (n : ℕ) → nat_eq n 0 ≡ false → 0 < n
+positive zero h = cc
+positive (suc n) h = omega arith
+
+above-step : {K : Type 0} (cmp : K → K → Ordering) (key : K) (n : ℕ) (e : K × ℕ) (es : List (K × ℕ)) (r : Ordering) → 0 < n → AllByRecursion (λ m. 0 < m) (values_of (e ∷ es)) → AllByRecursion (λ m. 0 < m) (values_of (merge cmp counts_added es key n))
+    → AllByRecursion (λ m. 0 < m) (values_of (match_ordering r ((key, n) ∷ e ∷ es) ((e.0, counts_added e.1 n) ∷ es) (e ∷ merge cmp counts_added es key n)))
+above-step cmp key n e es Less some all rest = (some, all)
+above-step cmp key n e es Equal some all rest = (omega (arith, some), all.1)
+above-step cmp key n e es Greater some all rest = (all.0, rest)
+
+-- one that is merged leaves each sum above 0
+pub above-merge : {K : Type 0} (cmp : K → K → Ordering) (es : List (K × ℕ)) (key : K) (n : ℕ) → 0 < n → AllByRecursion (λ m. 0 < m) (values_of es) → AllByRecursion (λ m. 0 < m) (values_of (merge cmp counts_added es key n))
+above-merge cmp [] key n some all = (some, tt)
+above-merge cmp (e ∷ es) key n some all = above-step cmp key n e es (cmp key e.0) some all (above-merge cmp es key n some all.1)
 
 -- ---- keys
 
@@ -87,33 +111,32 @@ module _ {K X : Type 0} {cmp : K → K → Ordering} (exact : TellsApart cmp) (a
 
 -- ---- order
 
+all-step : {K X : Type 0} (cmp : K → K → Ordering) (add : X → X → X) (P : K → Type 0) (e : K × X) (es : List (K × X)) (key : K) (amount : X) (r : Ordering) → AllByRecursion P (keys_of (e ∷ es)) → P key → AllByRecursion P (keys_of (merge cmp add es key amount))
+    → AllByRecursion P (keys_of (match_ordering r ((key, amount) ∷ e ∷ es) ((e.0, add e.1 amount) ∷ es) (e ∷ merge cmp add es key amount)))
+all-step cmp add P e es key amount Less all new rest = (new, all)
+all-step cmp add P e es key amount Equal all new rest = all
+all-step cmp add P e es key amount Greater all new rest = (all.0, rest)
+
+-- what holds of each key and of a new one holds of each key after a merge
+pub all-merge : {K X : Type 0} (cmp : K → K → Ordering) (add : X → X → X) (P : K → Type 0) (es : List (K × X)) (key : K) (amount : X) → AllByRecursion P (keys_of es) → P key → AllByRecursion P (keys_of (merge cmp add es key amount))
+all-merge cmp add P [] key amount all new = (new, tt)
+all-merge cmp add P (e ∷ es) key amount all new = all-step cmp add P e es key amount (cmp key e.0) all new (all-merge cmp add P es key amount all.1 new)
+
+pub lower : {K : Type 0} {cmp : K → K → Ordering} (order : IsTotalOrder cmp) (low high : K) (ks : List K) → cmp low high ≡ Less → AllByRecursion (λ y. cmp high y ≡ Less) ks → AllByRecursion (λ y. cmp low y ≡ Less) ks
+lower order low high [] below all = tt
+lower order low high (k ∷ ks) below all = (order.trans low high k below all.0, lower order low high ks below all.1)
+
 module _ {K X : Type 0} {cmp : K → K → Ordering} (order : IsTotalOrder cmp) (add : X → X → X) where
   flipped : (a b : K) → cmp a b ≡ Greater → cmp b a ≡ Less
   flipped a b h = order.antisymm b a ∙ ap ordering_reverse h
-
-  below-step : (low : K) (e : K × X) (es : List (K × X)) (key : K) (amount : X) (r : Ordering) → AllByRecursion (λ y. cmp low y ≡ Less) (keys_of (e ∷ es)) → cmp low key ≡ Less
-      → AllByRecursion (λ y. cmp low y ≡ Less) (keys_of (merge cmp add es key amount))
-      → AllByRecursion (λ y. cmp low y ≡ Less) (keys_of (match_ordering r ((key, amount) ∷ e ∷ es) ((e.0, add e.1 amount) ∷ es) (e ∷ merge cmp add es key amount)))
-  below-step low e es key amount Less all new rest = (new, all)
-  below-step low e es key amount Equal all new rest = all
-  below-step low e es key amount Greater all new rest = (all.0, rest)
-
-  -- what is below all keys, and below the key of an amount, is below all merged keys
-  below-merge : (low : K) (entries : List (K × X)) (key : K) (amount : X) → AllByRecursion (λ y. cmp low y ≡ Less) (keys_of entries) → cmp low key ≡ Less → AllByRecursion (λ y. cmp low y ≡ Less) (keys_of (merge cmp add entries key amount))
-  below-merge low [] key amount all new = (new, tt)
-  below-merge low (e ∷ es) key amount all new = below-step low e es key amount (cmp key e.0) all new (below-merge low es key amount all.1 new)
-
-  lower : (low high : K) (ks : List K) → cmp low high ≡ Less → AllByRecursion (λ y. cmp high y ≡ Less) ks → AllByRecursion (λ y. cmp low y ≡ Less) ks
-  lower low high [] below all = tt
-  lower low high (k ∷ ks) below all = (order.trans low high k below all.0, lower low high ks below all.1)
 
   sorted-step : (key : K) (amount : X) (e : K × X) (es : List (K × X)) (r : Ordering) → cmp key e.0 ≡ r → IsStrictlySortedBy cmp (keys_of (e ∷ es))
       → IsStrictlySortedBy cmp (keys_of (merge cmp add es key amount))
       → IsStrictlySortedBy cmp (keys_of (match_ordering r ((key, amount) ∷ e ∷ es) ((e.0, add e.1 amount) ∷ es) (e ∷ merge cmp add es key amount)))
   unfolding IsStrictlySortedBy
-  sorted-step key amount e es Less is sorted rest = ((is, lower key e.0 (keys_of es) is sorted.0), sorted)
+  sorted-step key amount e es Less is sorted rest = ((is, lower order key e.0 (keys_of es) is sorted.0), sorted)
   sorted-step key amount e es Equal is sorted rest = sorted
-  sorted-step key amount e es Greater is sorted rest = (below-merge e.0 es key amount sorted.0 (flipped key e.0 is), rest)
+  sorted-step key amount e es Greater is sorted rest = (all-merge cmp add (λ y. cmp e.0 y ≡ Less) es key amount sorted.0 (flipped key e.0 is), rest)
 
   one_sorted : (key : K) → IsStrictlySortedBy cmp (key ∷ [])
   unfolding IsStrictlySortedBy
@@ -151,7 +174,7 @@ module _ {K X : Type 0} {cmp : K → K → Ordering} (order : IsTotalOrder cmp) 
       → (lookup (is_at (cmp key)) es ≡ Some old → set_value (is_at (cmp key)) es (add old amount) ≡ merge cmp add es key amount)
       → cond (is_eq r) ((e.0, add old amount) ∷ es) (e ∷ set_value (is_at (cmp key)) es (add old amount)) ≡ match_ordering r ((key, amount) ∷ e ∷ es) ((e.0, add e.1 amount) ∷ es) (e ∷ merge cmp add es key amount)
   set-step key amount old e es Less is sorted found rest =
-      let all = lower key e.0 (keys_of es) is (sorted_head cmp e.0 (keys_of es) sorted) in
+      let all = lower order key e.0 (keys_of es) is (sorted_head cmp e.0 (keys_of es) sorted) in
       let none : lookup (is_at (cmp key)) es ≡ None = none_above key es all in
       let clash : None ≡ Some old = sym none ∙ found in
       absurd (cc)
@@ -168,7 +191,7 @@ module _ {K X : Type 0} {cmp : K → K → Ordering} (order : IsTotalOrder cmp) 
       → (lookup (is_at (cmp key)) es ≡ Some old → insert_entry cmp es key v ≡ set_value (is_at (cmp key)) es v)
       → match_ordering r ((key, v) ∷ e ∷ es) ((e.0, v) ∷ es) (e ∷ insert_entry cmp es key v) ≡ cond (is_eq r) ((e.0, v) ∷ es) (e ∷ set_value (is_at (cmp key)) es v)
   insert-step-held key old v e es Less is sorted found rest =
-      let all = lower key e.0 (keys_of es) is (sorted_head cmp e.0 (keys_of es) sorted) in
+      let all = lower order key e.0 (keys_of es) is (sorted_head cmp e.0 (keys_of es) sorted) in
       let none : lookup (is_at (cmp key)) es ≡ None = none_above key es all in
       let clash : None ≡ Some old = sym none ∙ found in
       absurd (cc)

@@ -129,14 +129,6 @@ place-new (first ∷ names) name h =
     place-further name first (names ++ name ∷ []) (not_here name first names h)
     ∙ ap further (place-new names name (not_further name first names h))
 
--- no other name's place changes
-pub place-other : (names : List (List ℕ)) (name new : List ℕ) → bytes_eq name new ≡ false → place_of name (names ++ new ∷ []) ≡ place_of name names
-place-other [] name new h = place-further name new [] h
-place-other (first ∷ names) name new h = elim (cases_Bool (bytes_eq name first)) [
-  | inl same ↦ place-here name first (names ++ new ∷ []) same ∙ sym (place-here name first names same)
-  | inr other ↦ place-further name first (names ++ new ∷ []) other ∙ ap further (place-other names name new h) ∙ sym (place-further name first names other)
-]
-
 -- a place that a name has it keeps
 pub place-kept : (names : List (List ℕ)) (name new : List ℕ) (n : ℕ) → place_of name names ≡ Some n → place_of name (with_name new names) ≡ Some n
 place-kept [] name new n h = absurd (cc)
@@ -187,26 +179,3 @@ distinct-after (Ok n) old new name h gives = ap are_distinct gives.1 ∙ distinc
 distinct-after (Err e) old new name h same = ap are_distinct same ∙ h
 
 -- ---- the last name goes
-
-none-before : (p : List ℕ → Bool) (names : List (List ℕ)) (last : List ℕ) → list_any p (names ++ last ∷ []) ≡ false → (list_any p names ≡ false) × (p last ≡ false)
-none-before p [] last none = (refl, (or_parts (p last) false none).0)
-none-before p (first ∷ names) last none =
-    let parts = or_parts (p first) (list_any p (names ++ last ∷ [])) none in
-    let rest = none-before p names last parts.1 in
-    (or_from (p first) (list_any p names) parts.0 rest.0, rest.1)
-
-pub distinct-before : (names : List (List ℕ)) (last : List ℕ) → are_distinct (names ++ last ∷ []) ≡ true → are_distinct names ≡ true
-distinct-before [] last h = refl
-distinct-before (first ∷ names) last h =
-    let parts = first-apart first (names ++ last ∷ []) h in
-    and_from (not (list_any (bytes_eq first) names)) (are_distinct names)
-    (not_from_false (list_any (bytes_eq first) names) (none-before (bytes_eq first) names last parts.0).0)
-    (distinct-before names last parts.1)
-
--- it stands nowhere before
-pub absent-before : (names : List (List ℕ)) (last : List ℕ) → are_distinct (names ++ last ∷ []) ≡ true → place_of last names ≡ None
-absent-before [] last h = refl
-absent-before (first ∷ names) last h =
-    let parts = first-apart first (names ++ last ∷ []) h in
-    let other : bytes_eq last first ≡ false = apart-swapped first last (none-before (bytes_eq first) names last parts.0).1 in
-    place-further last first names other ∙ ap further (absent-before names last parts.1)

@@ -7,12 +7,13 @@ use Rattle.std.specs.Cmp.{Equal-is}
 use Rattle.std.specs.Cmp.Lexicographic.{slice_cmp}
 use Rattle.std.specs.List.{list_any, slice_get}
 use Rattle.std.specs.Map.{lookup}
-use Rattle.std.specs.BTreeMap.{BTreeMap, get, insert_entry, get_by, Updates}
+use Rattle.std.specs.BTreeMap.{BTreeMap, get, insert_entry, get_by}
 use Rattle.std.specs.Str.{bytes_eq}
 use Rattle.std.specs.declared.vec.Vec.{Vec}
 use Rattle.std.proofs.lemmas.Bool.{cases_Bool, and_from, not_from_false, or_parts, or_from}
 use Rattle.std.proofs.lemmas.List.{take-append-drop}
-use Rattle.std.proofs.lemmas.Map.Lookups.{exact_bytes, exact_unsigned}
+use Rattle.std.proofs.lemmas.Map.Lookups.{exact_bytes}
+use Rattle.std.proofs.lemmas.Map.Views.{tells_apart}
 use Rattle.std.proofs.lemmas.Map.Text.{is_eq-slice_cmp}
 use Rattle.cg_text.specs.Distinct.{are_distinct}
 use Rattle.cost_rows.specs.Hashes.{hash_of}
@@ -49,9 +50,6 @@ module _ {K X : Type 0} (R : K → K → Ordering) (test : K → Bool) (alike : 
 abbrev pub by_bytes : {Z : Type 0} → Vec ℕ Z → Vec ℕ Z → Ordering
 by_bytes x y = slice_cmp nat_cmp x.items y.items
 
-pub equal-bytes : (a b : List ℕ) → is_eq (slice_cmp nat_cmp a b) ≡ true → a ≡ b
-equal-bytes a b h = same_bytes a b (sym (is_eq-slice_cmp a b) ∙ h)
-
 bytes-equal : (a b : List ℕ) → a ≡ b → slice_cmp nat_cmp a b ≡ Equal
 bytes-equal a b e = (Equal-is (slice_cmp nat_cmp a b)).0 (is_eq-slice_cmp a b ∙ bytes-same a b e)
 
@@ -62,7 +60,7 @@ found-by-name others more key n name entries =
     ap (lookup (λ k. is_eq (slice_cmp nat_cmp name k.items))) entries
     ∙ lookup-insert_entry by_bytes (λ k. is_eq (slice_cmp nat_cmp name k.items))
     (λ x y equal. ap (λ b. is_eq (slice_cmp nat_cmp name b)) (exact_bytes x.items y.items equal))
-    (λ x y one two. bytes-equal x.items y.items (sym (equal-bytes name x.items one) ∙ equal-bytes name y.items two))
+    (λ x y one two. bytes-equal x.items y.items (sym (tells_apart exact_bytes name x.items one) ∙ tells_apart exact_bytes name y.items two))
     key n others.entries
 
 -- ---- places in lists
@@ -143,19 +141,6 @@ module _ {Z : Type 0} where
           absurd (cc)
       apart name n at (inr other) = other
 
-  -- a hash that had no number gets one: all else is found as before
-  pub hash-kept : (name : List ℕ) (hashes more : BTreeMap ℕ ℕ) (others : BTreeMap (Vec ℕ Z) ℕ) (hash n : ℕ) → get nat_cmp hashes hash ≡ None → Updates nat_cmp hashes more hash (Some n) → FindsAllBut name hashes others more others
-  hash-kept name hashes more others hash n none updates other m apart (inl by_hash) = inl (kept (cases_Bool (is_eq (nat_cmp hash (hash_of other)))))
-    where
-      kept : (is_eq (nat_cmp hash (hash_of other)) ≡ true) ⊎ (is_eq (nat_cmp hash (hash_of other)) ≡ false) → get nat_cmp more (hash_of other) ≡ Some m
-      kept (inl same) =
-          let e : hash ≡ hash_of other = exact_unsigned hash (hash_of other) ((Equal-is (nat_cmp hash (hash_of other))).0 same) in
-          let nothing : Option ℕ = None in
-          let h : nothing ≡ Some m = sym none ∙ ap (get nat_cmp hashes) e ∙ by_hash in
-          absurd (cc)
-      kept (inr different) = updates.2 (hash_of other) different ∙ by_hash
-  hash-kept name hashes more others hash n none updates other m apart (inr by_name) = inr by_name
-
   -- a name gets a number by itself: all else is found as before
   pub name-kept : (name : List ℕ) (hashes : BTreeMap ℕ ℕ) (others more : BTreeMap (Vec ℕ Z) ℕ) (key : Vec ℕ Z) (n : ℕ) → key.items ≡ name → more.entries ≡ insert_entry by_bytes others.entries key n → FindsAllBut name hashes others hashes more
   name-kept name hashes others more key n bytes entries other m apart (inl by_hash) = inl by_hash
@@ -168,15 +153,6 @@ module _ {Z : Type 0} where
   name-found name hashes others more key n bytes entries =
       let same : is_eq (slice_cmp nat_cmp name key.items) ≡ true = is_eq-slice_cmp name key.items ∙ bytes-same name key.items (sym bytes) in
       inr (found-by-name others more key n name entries ∙ ap (λ b. cond b (Some n) (get_by (λ k. slice_cmp nat_cmp name k.items) others)) same)
-
-  -- maps with the same entries find the same
-  pub same-hashes : (name : List ℕ) (hashes more : BTreeMap ℕ ℕ) (others : BTreeMap (Vec ℕ Z) ℕ) → more.entries ≡ hashes.entries → FindsAllBut name hashes others more others
-  same-hashes name hashes more others same other m apart (inl by_hash) = inl (ap (lookup (λ k. is_eq (nat_cmp (hash_of other) k))) same ∙ by_hash)
-  same-hashes name hashes more others same other m apart (inr by_name) = inr by_name
-
-  pub same-others : (name : List ℕ) (hashes : BTreeMap ℕ ℕ) (others more : BTreeMap (Vec ℕ Z) ℕ) → more.entries ≡ others.entries → FindsAllBut name hashes others hashes more
-  same-others name hashes others more same other m apart (inl by_hash) = inl by_hash
-  same-others name hashes others more same other m apart (inr by_name) = inr (ap (lookup (λ k. is_eq (slice_cmp nat_cmp other k.items))) same ∙ by_name)
 
 -- ---- what a search finds
 

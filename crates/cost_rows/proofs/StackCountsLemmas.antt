@@ -10,7 +10,7 @@ use Rattle.cost_rows.specs.Stacks.{bytes_cmp}
 use Rattle.cost_rows.specs.StackCounts.{slot_of_stack, IsFound, AreFound}
 use Rattle.cost_rows.specs.declared.stack_counts.FoundStack.{FoundStack}
 use Rattle.cost_rows.proofs.StacksLemmas.{bytes_cmp-total, forgotten}
-use Rattle.cost_rows.proofs.SlotsLemmas.{absent-with_sums, put-keeps}
+use Rattle.cost_rows.proofs.SlotsLemmas.{put-keeps, slot-absent}
 
 pub none_found : (slots : List (List ℕ × ℕ)) (found : List (Option FoundStack)) → found ≡ [] → AreFound slots found
 none_found slots found none = subst (AreFound slots) (sym none) (All-nil (IsFound slots))
@@ -29,5 +29,5 @@ pub forgotten_again : (old found put now : Slotted (List ℕ)) (frames : List �
     → sums_in put ≡ stacks_with frames count (sums_in found) → sums_in now ≡ remove_entry (is_at (bytes_cmp frames)) (sums_in put) → sums_in now ≡ sums_in old
 forgotten_again old found put now frames count known is none same counted gone =
     let absent : slot_of_stack frames old.slots ≡ None = sym is ∙ none in
-    forgotten (sums_in old) (sums_in put) (sums_in now) frames count (absent-with_sums (is_at (bytes_cmp frames)) old.sums old.slots absent)
+    forgotten (sums_in old) (sums_in put) (sums_in now) frames count (slot-absent bytes_cmp 0 old.sums old.slots frames absent)
     (counted ∙ ap (λ (s : Slotted (List ℕ)). stacks_with frames count (sums_in s)) same) gone

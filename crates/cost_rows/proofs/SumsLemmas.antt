@@ -1,8 +1,7 @@
 -- The rows of merged records sum to what the records sum to.
 use Rattle.std.proofs.Common.{◌≡◌, ℕ, ◌+◌, ◌<◌, ◌≤◌, zero, suc, Bool, true, false, ◌||◌, List, [], ◌∷◌, ◌++◌, length, fold, slice_index, Some, unwrap_or, if◌then◌else◌, refl, sym, ap, ap₂, ◌∙◌, subst, arith, add_assoc, length-append}
-use Rattle.std.specs.declared.cmp.Ordering.{Ordering}
-use Rattle.std.specs.declared.cmp.Ordering.TheVariants.{Less, Equal, Greater}
-use Rattle.std.specs.Ordering.{match_ordering}
+use Rattle.std.proofs.Math.Nat.{add-zero, zero-add}
+use Rattle.std.proofs.Math.Bool.{or-false}
 use Rattle.std.specs.List.{AllByRecursion, list_any, slice_get}
 use Rattle.std.specs.Map.{keys_of}
 use Rattle.profile_records.specs.Records.{Cost, Callee, Record, Own, Called}
@@ -11,7 +10,7 @@ use Rattle.profile_records.specs.Columns.{added}
 use Rattle.cost_rows.specs.Calls.{Calls, calls_added}
 use Rattle.cost_rows.specs.Growing.{Grows}
 use Rattle.cost_rows.specs.Held.{IsHeld, CellHeld, CallHeld, AreHeld}
-use Rattle.cost_rows.specs.Merging.{merge, sum_where}
+use Rattle.cost_rows.specs.Merging.{sum_where}
 use Rattle.cost_rows.specs.Places.{cell_cmp, call_cmp}
 use Rattle.cost_rows.specs.Content.{Content, empty, number_of, with_three, names_with_cost, names_with_callee, place_of_cost, cell_of, call_of, calls_of, with_cost, with_call, with_record}
 use Rattle.cost_rows.specs.Trimmed.{trimmed}
@@ -21,7 +20,7 @@ use Rattle.cost_rows.specs.declared.places.Call.{Call}
 use Rattle.cost_rows.proofs.NamingLemmas.{at_place}
 use Rattle.profile_records.proofs.ColumnsLemmas.{slice_index-added}
 use Rattle.cost_rows.proofs.GrowingLemmas.{grows-more, grows-with, kept-by_three, held-three}
-use Rattle.cost_rows.proofs.MergeLemmas.{sum-merge, keys-merge}
+use Rattle.cost_rows.proofs.MergeLemmas.{all-merge, sum-merge, keys-merge}
 use Rattle.cost_rows.proofs.PlacesLemmas.{cell_cmp-apart, call_cmp-apart}
 use Rattle.cost_rows.proofs.TrimmedLemmas.{column-trimmed}
 
@@ -61,17 +60,6 @@ held-kept names new a b d grows held =
     (omega (arith, held.0), omega (arith, held.1), omega (arith, held.2))
 
 -- ---- keys
-
-all-step : {K X : Type 0} (cmp : K → K → Ordering) (add : X → X → X) (P : K → Type 0) (e : K × X) (es : List (K × X)) (key : K) (amount : X) (r : Ordering) → AllByRecursion P (keys_of (e ∷ es)) → P key → AllByRecursion P (keys_of (merge cmp add es key amount))
-    → AllByRecursion P (keys_of (match_ordering r ((key, amount) ∷ e ∷ es) ((e.0, add e.1 amount) ∷ es) (e ∷ merge cmp add es key amount)))
-all-step cmp add P e es key amount Less all new rest = (new, all)
-all-step cmp add P e es key amount Equal all new rest = all
-all-step cmp add P e es key amount Greater all new rest = (all.0, rest)
-
--- what holds of each key and of a new one holds of each key after a merge
-all-merge : {K X : Type 0} (cmp : K → K → Ordering) (add : X → X → X) (P : K → Type 0) (es : List (K × X)) (key : K) (amount : X) → AllByRecursion P (keys_of es) → P key → AllByRecursion P (keys_of (merge cmp add es key amount))
-all-merge cmp add P [] key amount all new = (new, tt)
-all-merge cmp add P (e ∷ es) key amount all new = all-step cmp add P e es key amount (cmp key e.0) all new (all-merge cmp add P es key amount all.1 new)
 
 all-weaker : {K : Type 0} (P Q : K → Type 0) (ks : List K) → ((k : K) → P k → Q k) → AllByRecursion P ks → AllByRecursion Q ks
 all-weaker P Q [] weaker all = tt
@@ -222,12 +210,9 @@ has-call passes c callee cost held =
 
 -- ---- all records
 
-pub plus_none : (n : ℕ) → n ≡ n + 0
-plus_none n = omega arith
-
 law-cells : (passes : Spot → Bool) (k : ℕ) (records : List Record) (c : Content) → AreHeld c
     → cells_where passes k (fold with_record c records) ≡ cells_where passes k c + self_sum passes k records
-law-cells passes k [] c held = plus_none _
+law-cells passes k [] c held = sym (add-zero _)
 law-cells passes k (Own cost ∷ records) c held =
     law-cells passes k records (with_cost c cost) (held-cost c cost held)
     ∙ ap (λ n. n + self_sum passes k records) (cells-cost passes k c cost held)
@@ -244,7 +229,7 @@ edge_sum f passes (Called callee cost ∷ records) = (if passes (caller_spot cos
 
 law-edges : (passes : Spot → Spot → Bool) (f : Calls → ℕ) (adds : (x y : Calls) → f (calls_added x y) ≡ f x + f y) (records : List Record) (c : Content) → AreHeld c
     → sum_where (passing_call passes (fold with_record c records).names) f (fold with_record c records).calls ≡ sum_where (passing_call passes c.names) f c.calls + edge_sum f passes records
-law-edges passes f adds [] c held = plus_none _
+law-edges passes f adds [] c held = sym (add-zero _)
 law-edges passes f adds (Own cost ∷ records) c held =
     law-edges passes f adds records (with_cost c cost) (held-cost c cost held)
     ∙ ap (λ n. n + edge_sum f passes records) (edges-kept passes f c.names (names_with_cost cost c.names) c.calls (grows-three c.names cost.object cost.file cost.function) held.calls)
@@ -253,10 +238,6 @@ law-edges passes f adds (Called callee cost ∷ records) c held =
     ∙ ap (λ n. n + edge_sum f passes records) (edges-call passes f adds c callee cost held)
     ∙ add_assoc (sum_where (passing_call passes c.names) f c.calls) (if passes (caller_spot cost) (callee_spot callee) then f (calls_of callee cost) else 0) (edge_sum f passes records)
 
-or_none : (b : Bool) → b ≡ b || false
-or_none true = refl
-or_none false = refl
-
 turned : (a b d : Bool) → (a || b) || d ≡ b || (a || d)
 turned true true d = refl
 turned true false d = refl
@@ -264,7 +245,7 @@ turned false true d = refl
 turned false false d = refl
 
 law-called : (passes : Spot → Spot → Bool) (records : List Record) (c : Content) → AreHeld c → has_edge passes (fold with_record c records) ≡ has_edge passes c || has_call passes records
-law-called passes [] c held = or_none (has_edge passes c)
+law-called passes [] c held = sym (or-false (has_edge passes c))
 law-called passes (Own cost ∷ records) c held =
     law-called passes records (with_cost c cost) (held-cost c cost held)
     ∙ ap (λ b. b || has_call passes records) (has-kept passes c.names (names_with_cost cost c.names) c.calls (grows-three c.names cost.object cost.file cost.function) held.calls)
@@ -297,24 +278,21 @@ held-all (Called callee cost ∷ records) c held = held-all records (with_call c
 pub held-records : (records : List Record) → AreHeld (content_of_records records)
 held-records records = held-all records empty none_held
 
-pub none_plus : (n : ℕ) → 0 + n ≡ n
-none_plus n = omega arith
-
 pub sums-cells : (passes : Spot → Bool) (k : ℕ) (records : List Record)
     → cells_where passes k (content_of_records records) ≡ self_sum passes k records
-sums-cells passes k records = law-cells passes k records empty none_held ∙ none_plus (self_sum passes k records)
+sums-cells passes k records = law-cells passes k records empty none_held ∙ zero-add (self_sum passes k records)
 
 pub sums-edges : (passes : Spot → Spot → Bool) (k : ℕ) (records : List Record)
     → calls_where passes k (content_of_records records) ≡ call_sum passes k records
 sums-edges passes k records =
     law-edges passes (λ calls. slice_index calls.costs k) (λ x y. slice_index-added x.costs y.costs k) records empty none_held
-    ∙ none_plus (edge_sum (λ calls. slice_index calls.costs k) passes records) ∙ call_sum-is passes k records
+    ∙ zero-add (edge_sum (λ calls. slice_index calls.costs k) passes records) ∙ call_sum-is passes k records
 
 pub sums-counts : (passes : Spot → Spot → Bool) (records : List Record)
     → counts_where passes (content_of_records records) ≡ count_sum passes records
 sums-counts passes records =
     law-edges passes (λ calls. calls.count) (λ x y. refl) records empty none_held
-    ∙ none_plus (edge_sum (λ calls. calls.count) passes records) ∙ count_sum-is passes records
+    ∙ zero-add (edge_sum (λ calls. calls.count) passes records) ∙ count_sum-is passes records
 
 pub calls-there : (passes : Spot → Spot → Bool) (records : List Record) → has_edge passes (content_of_records records) ≡ has_call passes records
 calls-there passes records = law-called passes records empty none_held

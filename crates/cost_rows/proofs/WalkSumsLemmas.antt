@@ -1,6 +1,7 @@
 -- The rows that are walked sum to the sums that are held.
 use Rattle.std.proofs.Common.{◌≡◌, ℕ, ◌+◌, ◌<◌, zero, suc, Bool, true, false, ◌&&◌, ◌||◌, ◌==◌, nat_lt, List, [], ◌∷◌, ◌++◌, map, slice_index, if◌then◌else◌, refl, ap, ◌∙◌, arith}
 use Rattle.std.proofs.lemmas.Bool.Decides.{nat_tests}
+use Rattle.std.proofs.lemmas.List.{map-append}
 use Rattle.std.specs.List.{list_any}
 use Rattle.std.specs.Map.{keys_of}
 use Rattle.cost_rows.specs.Merging.{sum_where}
@@ -78,10 +79,6 @@ rows-append passes k (x ∷ xs) ys =
     let b : ℕ = rows_cost passes k ys in
     let rest : rows_cost passes k (xs ++ ys) ≡ a + b = rows-append passes k xs ys in
     omega (arith, rest)
-
-map-append : {X Y : Type 0} (f : X → Y) (xs ys : List X) → map f (xs ++ ys) ≡ map f xs ++ map f ys
-map-append f [] ys = refl
-map-append f (x ∷ xs) ys = ap (λ zs. f x ∷ zs) (map-append f xs ys)
 
 pub walked-cells : (passes : Spot → Bool) (k : ℕ) (names : List (List ℕ)) (cells : List (CellPlace × List ℕ)) → rows_cost passes k (named_cells names cells) ≡ sum_where (passing_cell passes names) (λ costs. slice_index costs k) cells
 walked-cells passes k names [] = refl

@@ -1,7 +1,7 @@
 -- Calls: how many there were, and what they cost by column.
 use Rattle.std.specs.Prelude.{ℕ, ◌+◌, ◌<◌, ◌^◌, List, [], ◌∷◌}
 use Rattle.profile_records.specs.Columns.{added, HaveRoom}
-use Rattle.cost_rows.specs.Stretches.{valued}
+use Rattle.cost_rows.specs.Own.{valued}
 use Rattle.cost_rows.specs.declared.places.Call.{Call}
 
 pub record Calls : Type 0 where

@@ -1,11 +1,11 @@
 -- Sums by key, and what a row adds to them.
-use Rattle.std.specs.Prelude.{◌≡◌, ℕ, ◌+◌, ◌<◌, Bool, true, List, [], ◌∷◌, fold, nat_eq, if◌then◌else◌}
+use Rattle.std.specs.Prelude.{◌≡◌, ℕ, ◌+◌, ◌<◌, Bool, List, [], ◌∷◌, fold, nat_eq, if◌then◌else◌}
 use Rattle.std.specs.List.{AllByRecursion}
 use Rattle.std.specs.List.Sorted.{IsStrictlySortedBy}
 use Rattle.std.specs.Map.{keys_of, values_of}
 use Rattle.cost_rows.specs.Sums.{Spot}
 use Rattle.cost_rows.specs.Keys.{named_cmp, part_of, place_of_row}
-use Rattle.cost_rows.specs.Merging.{merge, sum_where}
+use Rattle.cost_rows.specs.Merging.{merge, sum_of_all, sum_where}
 use Rattle.cost_rows.specs.Stacks.{counts_added}
 use Rattle.cost_rows.specs.declared.keys.Key.{Key}
 use Rattle.cost_rows.specs.declared.rows.CellRow.{CellRow}
@@ -27,7 +27,7 @@ with_row s row =
 
 -- the sum of all
 abbrev pub total_of : List (Spot × ℕ) → ℕ
-total_of = sum_where (λ _. true) (λ n. n)
+total_of = sum_of_all
 
 -- sums as rows, of event 0
 abbrev pub rows_of : List (Spot × ℕ) → List (CellRow (List ℕ))

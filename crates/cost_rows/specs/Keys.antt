@@ -7,7 +7,7 @@ use Rattle.cost_rows.specs.Merging.{seen}
 use Rattle.cost_rows.specs.Stacks.{bytes_cmp}
 use Rattle.cost_rows.specs.Sums.{Spot}
 use Rattle.cost_rows.specs.declared.keys.Key.{Key}
-use Rattle.cost_rows.specs.declared.keys.LentPart.{LentPart}
+use Rattle.cost_rows.specs.declared.keys.LentPlace.{LentPlace}
 use Rattle.cost_rows.specs.declared.keys.Part.{Part}
 use Rattle.cost_rows.specs.declared.rows.CellRow.{CellRow}
 use Rattle.cost_rows.specs.declared.keys.Key.TheVariants.{Object, File, Function, Line, Thread}
@@ -32,9 +32,9 @@ named_cmp a b =
 abbrev pub plain_place : Part → Spot
 plain_place p = record { object = p.object.items; file = p.file.items; function = p.function.items; line = p.line; thread = p.thread }
 
--- a part as it is lent
-abbrev pub plain_part : LentPart → Spot
-plain_part p = record { object = p.object.now; file = p.file.now; function = p.function.now; line = p.line; thread = p.thread }
+-- a place as it is lent
+abbrev pub lent_place : LentPlace → Spot
+lent_place p = record { object = p.object.now; file = p.file.now; function = p.function.now; line = p.line; thread = p.thread }
 
 -- the place of a row
 abbrev pub place_of_row : CellRow (List ℕ) → Spot

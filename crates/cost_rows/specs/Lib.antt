@@ -5,6 +5,7 @@ pub mod Numbered
 pub mod Admit
 pub mod Merging
 pub mod Places
+pub mod Own
 pub mod Stretches
 pub mod Calls
 pub mod Stacks

@@ -1,5 +1,5 @@
 -- Sums by key: entries in the order of their keys, into which amounts are merged.
-use Rattle.std.specs.Prelude.{◌≡◌, ℕ, ◌+◌, Bool, ◌||◌, List, [], ◌∷◌, fold, if◌then◌else◌}
+use Rattle.std.specs.Prelude.{◌≡◌, ℕ, ◌+◌, Bool, true, ◌||◌, List, [], ◌∷◌, fold, if◌then◌else◌}
 use Rattle.std.specs.declared.cmp.Ordering.{Ordering}
 use Rattle.std.specs.declared.cmp.Ordering.TheVariants.{Equal}
 use Rattle.std.specs.Ordering.{match_ordering}
@@ -24,6 +24,10 @@ merge_all cmp add entries amounts = fold (λ es a. merge cmp add es a.0 a.1) ent
 abbrev pub sum_where : {K X : Type 0} → (K → Bool) → (X → ℕ) → List (K × X) → ℕ
 sum_where passes measure [] = 0
 sum_where passes measure (e ∷ entries) = (if passes e.0 then measure e.1 else 0) + sum_where passes measure entries
+
+-- the sum of all
+abbrev pub sum_of_all : {K : Type 0} → List (K × ℕ) → ℕ
+sum_of_all = sum_where (λ _. true) (λ n. n)
 
 -- an order by which only equal keys compare as equal
 abbrev pub TellsApart : {K : Type 0} → (K → K → Ordering) → Type 0

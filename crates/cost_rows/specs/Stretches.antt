@@ -1,20 +1,15 @@
 -- Sums by key, where each key has a stretch of its own among the sums of all.
-use Rattle.std.specs.Prelude.{◌≡◌, ℕ, ◌+◌, ◌≤◌, ◌⊎◌, List, [], ◌∷◌, Option, Some, IfSome, take, drop, length}
+use Rattle.std.specs.Prelude.{◌≡◌, ℕ, ◌+◌, ◌≤◌, ◌⊎◌, List, Option, Some, IfSome, take, drop, length}
 use Rattle.std.specs.BTreeMap.{is_at}
-use Rattle.std.specs.List.{AllByRecursion}
-use Rattle.std.specs.Map.{lookup, values_of}
+use Rattle.std.specs.Map.{lookup}
 use Rattle.std.specs.declared.cmp.Ordering.{Ordering}
 use Rattle.profile_records.specs.Columns.{added}
+use Rattle.cost_rows.specs.Own.{HaveOwn}
 use Rattle.cost_rows.specs.declared.stretches.Stretch.{Stretch}
 
 -- the sums of a stretch
 abbrev pub sums_at : List ℕ → Stretch → List ℕ
 sums_at sums s = take s.len (drop s.start sums)
-
--- entries, their values seen as something else
-abbrev pub valued : {K X Y : Type 0} → (X → Y) → List (K × X) → List (K × Y)
-valued see [] = []
-valued see (e ∷ entries) = (e.0, see e.1) ∷ valued see entries
 
 -- a stretch that ends within so many sums
 abbrev pub IsWithin : ℕ → Stretch → Type 0
@@ -24,15 +19,9 @@ IsWithin count s = s.start + s.len ≤ count
 abbrev pub AreApart : Stretch → Stretch → Type 0
 AreApart s t = (s.start + s.len ≤ t.start) ⊎ (t.start + t.len ≤ s.start)
 
--- no two keys share a sum
-abbrev pub ShareNone : {K : Type 0} → List (K × Stretch) → Type 0
-ShareNone [] = Unit {0}
-ShareNone (e ∷ entries) = AllByRecursion (λ s. AreApart s e.1) (values_of entries) × ShareNone entries
-
 -- each key has sums of its own, of which there are so many
-pub record HaveOwn {K : Type 0} (entries : List (K × Stretch)) (count : ℕ) : Type 0 where
-  pub within : AllByRecursion (IsWithin count) (values_of entries)
-  pub apart : ShareNone entries
+abbrev pub HaveSums : {K : Type 0} → List (K × Stretch) → ℕ → Type 0
+HaveSums entries count = HaveOwn AreApart (IsWithin count) entries
 
 -- costs were added to the sums of a stretch, and to no others
 pub record AreRaised (held : Stretch) (costs old new : List ℕ) : Type 0 where

@@ -1,5 +1,5 @@
 -- What the records of a file sum to, straight from the records.
-use Rattle.std.specs.Prelude.{◌≡◌, ℕ, ◌+◌, Bool, true, false, ◌||◌, List, [], ◌∷◌, fold, slice_index, slice_index_or, if◌then◌else◌}
+use Rattle.std.specs.Prelude.{◌≡◌, ℕ, ◌+◌, Bool, true, false, ◌&&◌, ◌||◌, nat_lt, List, [], ◌∷◌, fold, slice_index, slice_index_or, if◌then◌else◌}
 use Rattle.std.specs.List.{list_any}
 use Rattle.std.specs.List.Sorted.{IsStrictlySortedBy}
 use Rattle.std.specs.Map.{keys_of}
@@ -82,6 +82,11 @@ abbrev pub self_sum : (Spot → Bool) → ℕ → List Record → ℕ
 self_sum passes k [] = 0
 self_sum passes k (Own cost ∷ records) = (if passes (spot_of cost) then slice_index cost.costs k else 0) + self_sum passes k records
 self_sum passes k (Called callee cost ∷ records) = self_sum passes k records
+
+-- whether a record is a self record that costs something at a place that passes
+abbrev pub costs_at : (Spot → Bool) → Record → Bool
+costs_at passes (Own cost) = passes (spot_of cost) && list_any (nat_lt 0) cost.costs
+costs_at passes (Called callee cost) = false
 
 -- the sum of column k over the call records whose places and functions called pass
 abbrev pub call_sum : (Spot → Spot → Bool) → ℕ → List Record → ℕ

@@ -33,8 +33,8 @@ mod places;
 mod records;
 // The rows as they are lent and handed over (specs/Plain.antt).
 mod rows;
-// Sums by part, each in a slot of its own (specs/Slots.antt).
-mod slots;
+// A cost merged into the sum of its key (specs/Merging.antt).
+mod merging;
 // Counts by stack, each in a slot of its own (specs/StackCounts.antt, Stacks.antt).
 mod stack_counts;
 // The rows of a folded file (specs/StackSums.antt).
@@ -53,13 +53,14 @@ mod trimmed;
 mod walks;
 
 pub use file_rows::FileRows;
-pub use keys::Key;
+pub use keys::{Key, LentPlace};
 pub use laws::{
     merging_keeps_each_sum, numbers_tell_names_apart, rows_add_up_by_key, rows_have_their_names,
     rows_sum_to_the_records, rows_sum_to_the_stacks, walked_rows_sum_to_the_sums,
 };
 pub use limits::{Overflow, Side, admit};
 pub use merged::Merged;
+pub use merging::merge_cost;
 pub use names::Names;
 pub use numbered::{CallSum, CallsByPlace, CellSum, CellsByPlace, NumberedCalls, NumberedCells};
 pub use places::{Call, CellPlace, Place};

@@ -1,5 +1,5 @@
 // Counts of stacks, each in a slot of its own.
-ghost use Rattle.std.specs.Prelude.{◌≡◌, ◌+◌, ◌<◌, ◌^◌, ℕ, List, None, Some, [], length, OnOk, OnErr, IfOk, IfSome};
+ghost use Rattle.std.specs.Prelude.{◌≡◌, ◌+◌, ◌<◌, ◌^◌, ℕ, List, None, Some, [], length, slice_index, slice_set, OnOk, OnErr, IfOk, IfSome};
 ghost use Rattle.std.specs.Map.{remove_entry};
 ghost use Rattle.std.specs.BTreeMap.{is_at};
 ghost use Rattle.cost_rows.specs.Content.{stacks_with};
@@ -10,7 +10,6 @@ ghost use Rattle.cost_rows.specs.Totals.{stack_total};
 ghost use Rattle.cost_rows.specs.Walks.{counted_stacks};
 
 use crate::hashes::ODD;
-use crate::slots::raise;
 use crate::walks::StackWalk;
 use std::alloc::{AllocError, Global};
 use std::collections::BTreeMap;
@@ -89,6 +88,15 @@ fn lengthen(found: &mut Vec<Option<FoundStack>>, at: usize) -> Result<(), AllocE
         found.push(None)?;
     }
     Ok(())
+}
+
+/// Adds a count to that in a slot.
+fn raise(counts: &mut [u128], slot: usize, count: u128)
+    requires in_range { slot < length counts.old }
+    requires small { slice_index counts.old slot + count < 2 ^ 128 }
+    ensures { counts.new ≡ slice_set counts.old slot (slice_index counts.old slot + count) }
+{
+    counts[slot] += count;
 }
 
 impl StackCounts {

@@ -1,9 +1,8 @@
 // Stretches of sums in one list.
-ghost use Rattle.std.specs.Prelude.{◌≡◌, ◌≤◌, ◌++◌, OnOk, IfOk, length, take, drop};
+ghost use Rattle.std.specs.Prelude.{◌≡◌, ◌≤◌, ◌++◌, OnOk, IfOk, length, slice_index, take, drop};
 ghost use Rattle.profile_records.specs.Columns.{added, HaveRoom};
 ghost use Rattle.cost_rows.specs.Stretches.{sums_at, IsWithin, AreRaised};
 
-use crate::sum_rows::sum_in;
 use std::alloc::AllocError;
 
 /// Where the sums of a key stand among those of all keys. Of all together there are at most 2^32.
@@ -11,6 +10,13 @@ use std::alloc::AllocError;
 pub(crate) struct Stretch {
     start: u32,
     len: u32,
+}
+
+/// The sum in a slot, 0 where there is no such slot.
+pub(crate) fn sum_in(sums: &[u128], slot: usize) -> u128
+    ensures { result ≡ slice_index sums.now slot }
+{
+    sums.get(slot).copied().unwrap_or(0)
 }
 
 impl Stretch {

@@ -25,13 +25,14 @@ pub(crate) struct SumMap<K: Ord> {
 
 impl<K: Ord> Model for SumMap<K> {
     ghost use Rattle.std.specs.Prelude.{ℕ, List, length};
-    ghost use Rattle.cost_rows.specs.Stretches.{sums_at, valued, HaveOwn, IsHeldAt};
+    ghost use Rattle.cost_rows.specs.Own.{valued};
+    ghost use Rattle.cost_rows.specs.Stretches.{sums_at, HaveSums, IsHeldAt};
 
     ghost Value = { List (K × List ℕ) };
 
     ghost view = { λ a. valued (sums_at a.sums.items) a.stretches.entries };
 
-    ghost invariant = { λ a. HaveOwn a.stretches.entries (length a.sums.items) × IsHeldAt K.cmp a.stretches.entries a.recent };
+    ghost invariant = { λ a. HaveSums a.stretches.entries (length a.sums.items) × IsHeldAt K.cmp a.stretches.entries a.recent };
 }
 
 /// The stretch of a key, if it has one: at once where it is the key of before.
@@ -104,7 +105,8 @@ pub(crate) struct SumIter<'a, K> {
 
 impl<'a, K> Model for SumIter<'a, K> {
     ghost use Rattle.std.specs.Prelude.{ℕ, List};
-    ghost use Rattle.cost_rows.specs.Stretches.{sums_at, valued};
+    ghost use Rattle.cost_rows.specs.Own.{valued};
+    ghost use Rattle.cost_rows.specs.Stretches.{sums_at};
 
     ghost Value = { List (K × List ℕ) };
 

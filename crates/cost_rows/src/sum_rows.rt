@@ -1,6 +1,4 @@
 // The rows of sums by key.
-ghost use Rattle.std.specs.Prelude.{◌≡◌, slice_index};
-
 use crate::keys::Part;
 use crate::rows::CellRow;
 use std::collections::btree_map::Iter;
@@ -9,29 +7,19 @@ use std::marker::Model;
 /// Sums as rows, one for each part of a place, which contracts see as the list of what is left.
 #[derive(Drop)]
 pub struct SumRows<'a> {
-    /// The slots of the parts that are left.
-    pub(crate) entries: Iter<'a, Part, usize>,
-    /// The sum in each slot.
-    pub(crate) sums: &'a [u128],
-}
-
-/// The sum in a slot, 0 where there is no such slot.
-pub(crate) fn sum_in(sums: &[u128], slot: usize) -> u128
-    ensures { result ≡ slice_index sums.now slot }
-{
-    sums.get(slot).copied().unwrap_or(0)
+    /// The parts that are left, with their sums.
+    pub(crate) entries: Iter<'a, Part, u128>,
 }
 
 impl<'a> Model for SumRows<'a> {
     ghost use Rattle.std.specs.Prelude.{ℕ, List};
     ghost use Rattle.cost_rows.specs.Keys.{plain_sums};
     ghost use Rattle.cost_rows.specs.KeySums.{rows_of};
-    ghost use Rattle.cost_rows.specs.Slots.{with_sums};
     ghost use Rattle.cost_rows.specs.declared.rows.CellRow.{CellRow};
 
     ghost Value = { List (CellRow (List ℕ)) };
 
-    ghost view = { λ a. rows_of (with_sums a.sums.now (plain_sums a.entries)) };
+    ghost view = { λ a. rows_of (plain_sums a.entries) };
 }
 
 impl<'a> Iterator for SumRows<'a> {
@@ -45,7 +33,7 @@ impl<'a> Iterator for SumRows<'a> {
     ghost remaining = { item_count (λ s. s) };
 
     fn next(&mut self) -> Option<CellRow<&'a [u8]>> {
-        let (part, slot) = self.entries.next()?;
+        let (part, cost) = self.entries.next()?;
         Some(CellRow {
             object: part.object.as_slice(),
             file: part.file.as_slice(),
@@ -53,7 +41,7 @@ impl<'a> Iterator for SumRows<'a> {
             line: part.line,
             thread: part.thread,
             event: 0,
-            cost: sum_in(self.sums, *slot),
+            cost: *cost,
         })
     }
 }

@@ -4,7 +4,7 @@ ghost use Rattle.std.specs.Prelude.{◌≡◌};
 use crate::names::Names;
 use crate::numbered::{NumberedCalls, NumberedCells};
 use crate::rows::{ArcRow, CellRow, StackRow};
-use crate::sum_rows::sum_in;
+use crate::stretches::sum_in;
 use std::collections::btree_map::Iter;
 use std::marker::Model;
 

@@ -8,8 +8,8 @@ use Rattle.std.specs.declared.cmp.Ordering.TheVariants.{Less, Equal, Greater}
 use Rattle.std.specs.Str.{bytes_eq}
 use Rattle.std.proofs.lemmas.Bool.{or_cases, cases_Bool}
 use Rattle.std.proofs.lemmas.Cmp.{tied_itself}
+use Rattle.std.proofs.lemmas.Map.Lookups.{exact_bytes}
 use Rattle.cost_rows.proofs.NamingLemmas.{bytes-same}
-use Rattle.cost_rows.proofs.NumberedLemmas.{equal-bytes}
 use Rattle.cost_rows.proofs.StacksLemmas.{bytes_cmp-total}
 use Rattle.histories.specs.Texts.{placed, among, rising}
 use Rattle.histories.proofs.Tests.{Pairs, all_on, all_map}
@@ -121,7 +121,7 @@ up_among name (other ∷ names) up apart = go (slice_cmp nat_cmp name other) ref
   where
     go : (o : Ordering) → slice_cmp nat_cmp name other ≡ o → Pairs Before (among name names) → Pairs Before (placed o name other (among name names) names)
     go Less is rest = ((is, all_on (Before other) (Before name) names (λ later below. before_trans name other later is below) up.0), up)
-    go Equal is rest = absurd (let e : bytes_eq name other ≡ true = bytes-same name other (equal-bytes name other (ap is_eq is)) in let f : bytes_eq name other ≡ false = apart.0 in cc)
+    go Equal is rest = absurd (let e : bytes_eq name other ≡ true = bytes-same name other (exact_bytes name other is) in let f : bytes_eq name other ≡ false = apart.0 in cc)
     go Greater is rest = (all_among (Before other) name names (bytes_cmp-total.antisymm other name ∙ ap ordering_reverse is) up.0, rest)
 
 pub any_rising : (p : List ℕ → Bool) (names : List (List ℕ)) → list_any p (rising names) ≡ list_any p names

@@ -171,9 +171,6 @@ file_totals (Callgrind g) bytes short =
     n : ℕ
     n = length (events_by g bytes)
 
-    by_key : StatedKey → List ℕ
-    by_key key = columns (λ k. sum_in key k (end_by g bytes)) (length (events_by g bytes))
-
     are : (key : StatedKey) → (length (columns (λ k. sum_in key k (end_by g bytes)) (length (events_by g bytes))) ≡ length (events_by g bytes)) × AllByRecursion IsSmall (columns (λ k. sum_in key k (end_by g bytes)) (length (events_by g bytes)))
     are key = columns_are (λ k. sum_in key k (end_by g bytes)) (length (events_by g bytes)) (sum_small g bytes short key)
 

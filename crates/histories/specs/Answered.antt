@@ -54,10 +54,6 @@ module _ {S : Type 0} (g : Ghosts S) where
   abbrev pub StepsToIf : Limits → Command → Bool → Bool → S → S → Type 0
   StepsToIf limits command answered done old new = IsFaithful g new → Changed g TablesRepresent (Follows limits command) answered done old new
 
-  -- what a command leaves, by its answer
-  abbrev pub StepsTo : Limits → Command → Answer → S → S → Type 0
-  StepsTo limits command answer old new = StepsToIf limits command (is_accepted answer) (is_accepted answer) old new
-
   -- a command was answered: the answer is legal, and the store has the history with it
   pub record IsAnswered (limits : Limits) (h : History) (command : Command) (answer : Answer) (new : S) : Type 0 where
     pub legal : IsLegal limits h command answer

@@ -17,7 +17,6 @@ use Rattle.number_sums.specs.Named.{named_sum}
 use Rattle.number_sums.specs.Sums.{numbers_told, with_number}
 use Rattle.number_sums.specs.declared.parts.NumberPart.{NumberPart}
 use Rattle.number_sums.proofs.OnceNamed.{once_named}
-use Rattle.number_sums.proofs.ToldLemmas.{TellsAll, all_parted, told_all, told_back, told_each}
 
 -- ---- elements seen as others of the same cost
 
@@ -72,10 +71,3 @@ enough_named names key cut rows ranked kept apart held moved enough =
     enough_seen (named_sum names key) (λ (e : NumberPart × ℕ). e.1) (λ (e : Spot × ℕ). e.1) (λ e. refl) cut ranked kept by_name
     (IsPermutation-trans (map (named_sum names key) ranked) (map (named_sum names key) sums) by_name
     (IsPermutation-map (named_sum names key) ranked sums moved) (once_named names apart key rows held)) enough
-
--- and what holds of all numbers that are told holds of those that are told by what is enough
-pub told_enough : (P : ℕ → Type 0) (key : Key) (cut : Cut) (all some : List (NumberPart × ℕ)) → AreEnough (λ (e : NumberPart × ℕ). e.1) cut all some
-    → AllByRecursion P (numbers_told key all) → AllByRecursion P (numbers_told key some)
-told_enough P key cut all some enough each =
-    let held = told_each P key (some ++ enough.others) (told_back P key (some ++ enough.others) all enough.are_all each) in
-    told_all P key some (all_parted (TellsAll P key) some enough.others held).0

@@ -1,5 +1,5 @@
 -- Names that are some of all names give the sums that all names give, where the numbers that are told are among them.
-use Rattle.std.proofs.Common.{◌≡◌, ℕ, ◌+◌, Bool, List, [], ◌∷◌, map, if◌then◌else◌, refl, ap, ap₂, subst}
+use Rattle.std.proofs.Common.{◌≡◌, ℕ, ◌+◌, Bool, List, [], ◌∷◌, map, if◌then◌else◌, refl, ap, ap₂}
 use Rattle.std.specs.List.{AllByRecursion}
 use Rattle.cost_rows.specs.Keys.{part_of, place_of_row}
 use Rattle.cost_rows.specs.KeySums.{cost_where, sums_by}
@@ -14,10 +14,6 @@ use Rattle.number_sums.specs.Sums.{number_row, number_rows, numbers_told, told}
 use Rattle.number_sums.specs.declared.parts.NumberPart.{NumberPart}
 use Rattle.number_sums.proofs.ToldLemmas.{TellsAll, told_each}
 use Rattle.cost_reports.proofs.KeyLemmas.{same_by_key}
-
--- all names are some of themselves
-pub are_of_same : (some all : List NameRow) → some ≡ all → AreOf all some
-are_of_same some all same = subst (λ (names : List NameRow). AreOf names some) same (λ n held. (held, refl))
 
 module _ (all some : List NameRow) (of : AreOf all some) (key : Key) where
   named_alike : (k : Key) (part : NumberPart) (cost : ℕ) → AllByRecursion (IsHeld some) (told k part)

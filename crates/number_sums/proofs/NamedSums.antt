@@ -1,6 +1,7 @@
 -- Sums by number, named at the end, are those of the rows that are named first.
-use Rattle.std.proofs.Common.{inl, inr, ◌≡◌, ℕ, ◌+◌, Bool, true, false, List, [], ◌∷◌, fold, map, nat_eq, if◌then◌else◌, refl, sym, ap, ap₂, ◌∙◌, add_assoc, arith}
-use Rattle.std.proofs.lemmas.Bool.{cases_Bool, eqb-true}
+use Rattle.std.proofs.Common.{inl, inr, ◌≡◌, ℕ, ◌+◌, Bool, List, [], ◌∷◌, fold, map, nat_eq, if◌then◌else◌, refl, sym, ap, ap₂, ◌∙◌, add_assoc, arith}
+use Rattle.std.proofs.Math.Nat.{zero-add}
+use Rattle.std.proofs.lemmas.Bool.{cases_Bool}
 use Rattle.cost_rows.specs.Keys.{part_of, place_of_row}
 use Rattle.cost_rows.specs.KeySums.{cost_where, sums_by}
 use Rattle.cost_rows.specs.Merging.{sum_where}
@@ -9,7 +10,7 @@ use Rattle.cost_rows.specs.Sums.{Spot}
 use Rattle.cost_rows.specs.declared.keys.Key.{Key}
 use Rattle.cost_rows.specs.declared.keys.Key.TheVariants.{Object, File, Function, Line, Thread}
 use Rattle.cost_rows.specs.declared.rows.CellRow.{CellRow}
-use Rattle.cost_rows.proofs.MergeLemmas.{sum-merge}
+use Rattle.cost_rows.proofs.MergeLemmas.{nothing, sum-merge}
 use Rattle.plain_tables.specs.Tables.{NameRow}
 use Rattle.run_stores.specs.Names.{named_cell}
 use Rattle.number_sums.specs.Sums.{SumsByNumber, number_row, number_rows, numbers_part, with_number}
@@ -47,10 +48,6 @@ pub rows_keep_key : (rows : List (CellRow ℕ)) (s : SumsByNumber) → (fold wit
 rows_keep_key [] s = refl
 rows_keep_key (row ∷ rows) s = rows_keep_key rows (with_number s row) ∙ row_keeps_key s row
 
-nothing : (b : Bool) (cost : ℕ) → nat_eq cost 0 ≡ true → (if b then cost else 0) ≡ 0
-nothing true cost h = eqb-true cost 0 h
-nothing false cost h = refl
-
 sum_row : (test : NumberPart → Bool) (s : SumsByNumber) (row : CellRow ℕ)
     → sum_where test (λ n. n) (with_number s row).sums ≡ sum_where test (λ n. n) s.sums + (if test (numbers_part s.key row) then row.cost else 0)
 sum_row test s row = elim (cases_Bool (nat_eq row.cost 0)) [
@@ -80,13 +77,10 @@ sum_rows names key passes (row ∷ rows) s is =
     ∙ ap (λ p. (before + (if passes p then row.cost else 0)) + more) (part_named names key row)
     ∙ add_assoc before (if passes (part_of key (place_of_row (named_cell names row))) then row.cost else 0) more
 
-none_before : (n : ℕ) → 0 + n ≡ n
-none_before n = omega arith
-
 -- the sums of rows, named at the end
 pub named_at_the_end : (names : List NameRow) (key : Key) (rows : List (CellRow ℕ))
     → sums_by key (map (named_cell names) (number_rows (fold with_number (record { key = key; sums = [] }) rows).sums)) ≡ sums_by key (map (named_cell names) rows)
 named_at_the_end names key rows =
     let sums = (fold with_number (record { key = key; sums = [] }) rows).sums in
     same_by_key key (map (named_cell names) (number_rows sums)) (map (named_cell names) rows) (λ passes.
-    rows_cost names key passes sums ∙ sum_rows names key passes rows (record { key = key; sums = [] }) refl ∙ none_before (cost_where key passes (map (named_cell names) rows)))
+    rows_cost names key passes sums ∙ sum_rows names key passes rows (record { key = key; sums = [] }) refl ∙ zero-add (cost_where key passes (map (named_cell names) rows)))

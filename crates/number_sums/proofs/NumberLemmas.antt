@@ -7,10 +7,9 @@ use Rattle.std.proofs.lemmas.Cmp.{then_total, on_total}
 use Rattle.std.proofs.lemmas.Map.Lookups.{exact_unsigned}
 use Rattle.cost_rows.specs.Merging.{TellsApart}
 use Rattle.cost_rows.specs.Stacks.{counts_added}
-use Rattle.cost_rows.specs.declared.rows.CellRow.{CellRow}
 use Rattle.cost_rows.proofs.MergeLemmas.{sum-merge}
 use Rattle.cost_rows.proofs.PlacesLemmas.{both_equal}
-use Rattle.number_sums.specs.Sums.{SumsByNumber, numbers_cmp, numbers_part, numbers_total, numbers_with, with_number}
+use Rattle.number_sums.specs.Sums.{numbers_cmp, numbers_total, numbers_with}
 use Rattle.number_sums.specs.declared.parts.NumberPart.{NumberPart}
 
 same_part : (a b : NumberPart) → a.object ≡ b.object → a.file ≡ b.file → a.function ≡ b.function → a.line ≡ b.line → a.thread ≡ b.thread → a ≡ b
@@ -43,15 +42,6 @@ is_some n some = elim (cases_Bool (nat_eq n 0)) [
   | inl none ↦ absurd (some (eqb-true n 0 none))
   | inr other ↦ other
 ]
-
--- a row's cost, added at its part
-pub row_added : (s : SumsByNumber) (row : CellRow ℕ) (sums : List (NumberPart × ℕ)) → (row.cost ≡ 0 → ⊥) → sums ≡ numbers_with (numbers_part s.key row) row.cost s.sums
-    → ◌≡◌ {A = SumsByNumber} (record { key = s.key; sums = sums }) (with_number s row)
-row_added s row sums some added =
-    let P : List (NumberPart × ℕ) → SumsByNumber = λ es. record { key = s.key; sums = es } in
-    let e : P sums ≡ P (numbers_with (numbers_part s.key row) row.cost s.sums) = ap P added in
-    let f : P (numbers_with (numbers_part s.key row) row.cost s.sums) ≡ with_number s row = rw (is_some row.cost some) refl in
-    e ∙ f
 
 -- the sum of all grows by what is added
 pub total_with : (part : NumberPart) (cost : ℕ) (es : List (NumberPart × ℕ)) → numbers_total (numbers_with part cost es) ≡ numbers_total es + cost

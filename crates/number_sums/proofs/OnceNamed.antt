@@ -1,5 +1,5 @@
 -- Where each name is held once, no two sums by number have one place by names, so merging them by name only orders them.
-use Rattle.std.proofs.Common.{◌≡◌, ◌≢◌, ℕ, ◌<◌, false, nat_eq, List, [], ◌∷◌, ◌++◌, fold, map, inl, inr, refl, sym, ap, ◌∙◌, subst, arith, IsPermutation}
+use Rattle.std.proofs.Common.{◌≡◌, ◌≢◌, ℕ, ◌<◌, nat_eq, List, [], ◌∷◌, ◌++◌, fold, map, inl, inr, refl, sym, ap, ◌∙◌, subst, arith, IsPermutation}
 use Rattle.std.specs.declared.cmp.Ordering.{Ordering}
 use Rattle.std.specs.declared.cmp.Ordering.TheVariants.{Less, Equal, Greater}
 use Rattle.std.specs.List.{AllByRecursion}
@@ -19,7 +19,7 @@ use Rattle.cost_rows.specs.declared.keys.Key.{Key}
 use Rattle.cost_rows.specs.declared.keys.Key.TheVariants.{Object, File, Function, Line, Thread}
 use Rattle.cost_rows.specs.declared.rows.CellRow.{CellRow}
 use Rattle.cost_rows.proofs.KeysLemmas.{named_cmp-apart}
-use Rattle.cost_rows.proofs.MergeLemmas.{sorted-merge}
+use Rattle.cost_rows.proofs.MergeLemmas.{positive, sorted-merge}
 use Rattle.plain_tables.specs.Tables.{NameRow}
 use Rattle.run_stores.specs.Book.{IsHeld}
 use Rattle.run_stores.specs.Names.{named_cell, AreApart}
@@ -43,15 +43,12 @@ part_again Function row = refl
 part_again Line row = refl
 part_again Thread row = refl
 
-above : (n : ℕ) → nat_eq n 0 ≡ false → 0 < n
-above n some = grind (arith, some)
-
 are_sums : (key : Key) (rows : List (CellRow ℕ)) (s : SumsByNumber) → s.key ≡ key → AllByRecursion (IsSum key) s.sums → AllByRecursion (IsSum key) (fold with_number s rows).sums
 are_sums key [] s is all = all
 are_sums key (row ∷ rows) s is all = are_sums key rows (with_number s row) (row_keeps_key s row ∙ is) (elim (cases_Bool (nat_eq row.cost 0)) [
   | inl none ↦ rw none all
   | inr some ↦ rw some (all_with (IsSum key) (numbers_part s.key row) row.cost
-      (above row.cost some, subst (λ (k : Key). numbers_part key (number_row (numbers_part k row) 0) ≡ numbers_part k row) (sym is) (part_again key row))
+      (positive row.cost some, subst (λ (k : Key). numbers_part key (number_row (numbers_part k row) 0) ≡ numbers_part k row) (sym is) (part_again key row))
       (λ e sum. (omega (arith, sum.0), sum.1)) s.sums all)
 ])
 

@@ -1,5 +1,5 @@
 -- Sums in slots: a part leads to its slot, and what is done there is done to its sum.
-use Rattle.std.proofs.Common.{◌≡◌, ℕ, zero, suc, ◌+◌, ◌<◌, ◌≤◌, List, [], ◌∷◌, ◌++◌, length, map, get_or, Some, None, cond, slice_index, slice_set, refl, sym, ap, subst, ◌∙◌, arith, IsPermutation}
+use Rattle.std.proofs.Common.{◌≡◌, ℕ, zero, suc, ◌+◌, ◌<◌, ◌≤◌, List, [], ◌∷◌, ◌++◌, length, get_or, Some, None, cond, slice_index, slice_set, refl, sym, ap, subst, ◌∙◌, arith, IsPermutation}
 use Rattle.std.specs.declared.cmp.Ordering.{Ordering}
 use Rattle.std.specs.declared.cmp.Ordering.TheVariants.{Less, Equal, Greater}
 use Rattle.std.specs.BTreeMap.{is_at, insert_entry}
@@ -13,7 +13,7 @@ use Rattle.std.proofs.lemmas.Map.Entries.{lookup_from_place}
 use Rattle.std.proofs.lemmas.Map.Keys.{IsDistinct-from_sorted}
 use Rattle.std.proofs.lemmas.Option.{slice_get-get_or}
 use Rattle.cost_rows.specs.Slots.{with_sums, AreSlotsBy}
-use Rattle.cost_rows.proofs.SlotsLemmas.{are-put, no_slots, slot-in_range, slot-least, slot-put, slot-raised}
+use Rattle.cost_rows.proofs.SlotsLemmas.{are-put, slot-in_range, slot-least, slot-put, slot-raised}
 use Rattle.number_sums.specs.Ranked.{sums_of}
 use Rattle.number_sums.specs.Slots.{costs_of, numbered, parts_of, sums_at, IsSlotOf, LeadToParts}
 use Rattle.number_sums.specs.Sums.{numbers_cmp, numbers_total, numbers_with}
@@ -60,14 +60,6 @@ found_slot places slots slot part lead is =
     let none : PartSum = record { cost = record { 0 = 0 }; part = part } in
     let size = length-map slots (λ (s : PartSum). s.part) in
     found places (parts_of slots) slot part lead (omega (arith, size, is.0)) (get_or-map (λ (s : PartSum). s.part) slots slot none part is.0 ∙ is.1 none)
-
--- ---- no slots
-
-pub no_parts : (places : List (NumberPart × ℕ)) (slots : List PartSum) → places ≡ [] → slots ≡ [] → LeadToParts places (parts_of slots)
-no_parts places slots none empty =
-    let P : List (NumberPart × ℕ) → Type 0 = λ es. IsPermutation (numbered 0 (parts_of slots)) es in
-    let Q : List PartSum → Type 0 = λ xs. IsPermutation (numbered 0 (parts_of xs)) [] in
-    record { are = no_slots numbers_cmp places (length (parts_of slots)) none; same = subst P (sym none) (subst Q (sym empty) (IsPermutation-refl [])) }
 
 -- ---- a new slot
 
@@ -162,10 +154,6 @@ module _ (places : List (NumberPart × ℕ)) (slots : List PartSum) (part : Numb
 abbrev summed : List ℕ → NumberPart × ℕ → NumberPart × ℕ
 summed costs e = (e.0, slice_index costs e.1)
 
-with_sums_map : (costs : List ℕ) (es : List (NumberPart × ℕ)) → with_sums costs es ≡ map (summed costs) es
-with_sums_map costs [] = refl
-with_sums_map costs (e ∷ es) = ap (λ rest. (e.0, slice_index costs e.1) ∷ rest) (with_sums_map costs es)
-
 slots_summed : (before : List ℕ) (slots : List PartSum) (from : ℕ) → length before ≡ from → with_sums (before ++ costs_of slots) (numbered from (parts_of slots)) ≡ sums_of slots
 slots_summed before [] from is = refl
 slots_summed before (s ∷ slots) from is =
@@ -181,8 +169,5 @@ slots_summed before (s ∷ slots) from is =
 
 pub slots_moved : (places : List (NumberPart × ℕ)) (slots : List PartSum) → LeadToParts places (parts_of slots) → IsPermutation (sums_of slots) (sums_at places slots)
 slots_moved places slots lead =
-    let costs : List ℕ = costs_of slots in
-    let by_slot : map (summed costs) (numbered 0 (parts_of slots)) ≡ sums_of slots = sym (with_sums_map costs (numbered 0 (parts_of slots))) ∙ slots_summed [] slots 0 refl in
-    let P : List (NumberPart × ℕ) → Type 0 = λ xs. IsPermutation xs (sums_at places slots) in
-    let Q : List (NumberPart × ℕ) → Type 0 = λ ys. IsPermutation (map (summed costs) (numbered 0 (parts_of slots))) ys in
-    subst P by_slot (subst Q (sym (with_sums_map costs places)) (IsPermutation-map (summed costs) (numbered 0 (parts_of slots)) places lead.same))
+    subst (λ (xs : List (NumberPart × ℕ)). IsPermutation xs (sums_at places slots)) (slots_summed [] slots 0 refl)
+    (IsPermutation-map (summed (costs_of slots)) (numbered 0 (parts_of slots)) places lead.same)

@@ -1,19 +1,15 @@
 -- The numbers that sums tell, sum by sum.
-use Rattle.std.proofs.Common.{ℕ, List, [], ◌∷◌, ◌++◌, fold, inl, inr, nat_eq, subst, IsPermutation}
+use Rattle.std.proofs.Common.{ℕ, List, [], ◌∷◌, ◌++◌, IsPermutation}
 use Rattle.std.specs.declared.cmp.Ordering.{Ordering}
 use Rattle.std.specs.declared.cmp.Ordering.TheVariants.{Less, Equal, Greater}
 use Rattle.std.specs.List.{AllByRecursion}
 use Rattle.std.specs.Ordering.{match_ordering}
-use Rattle.std.proofs.lemmas.Bool.{cases_Bool}
 use Rattle.std.proofs.lemmas.List.Elements.{All-from_recursion, recursion_from_All}
-use Rattle.std.proofs.lemmas.List.Sorted.{All-permutation, IsPermutation-sym}
+use Rattle.std.proofs.lemmas.List.Sorted.{All-permutation}
 use Rattle.cost_rows.specs.Stacks.{counts_added}
 use Rattle.cost_rows.specs.declared.keys.Key.{Key}
-use Rattle.cost_rows.specs.declared.keys.Key.TheVariants.{Object, File, Function, Line, Thread}
-use Rattle.cost_rows.specs.declared.rows.CellRow.{CellRow}
-use Rattle.number_sums.specs.Sums.{SumsByNumber, numbers_cmp, numbers_part, numbers_told, numbers_with, told, with_number}
+use Rattle.number_sums.specs.Sums.{numbers_cmp, numbers_told, numbers_with, told}
 use Rattle.number_sums.specs.declared.parts.NumberPart.{NumberPart}
-use Rattle.number_sums.proofs.NamedSums.{rows_keep_key}
 
 -- ---- lists
 
@@ -47,9 +43,6 @@ told_all P key (e ∷ sums) each = all_joined P (told key e.0) (numbers_told key
 pub told_moved : (P : ℕ → Type 0) (key : Key) (a b : List (NumberPart × ℕ)) → IsPermutation a b → AllByRecursion P (numbers_told key a) → AllByRecursion P (numbers_told key b)
 told_moved P key a b moved all = told_all P key b (all_moved (TellsAll P key) a b moved (told_each P key a all))
 
-pub told_back : (P : ℕ → Type 0) (key : Key) (a b : List (NumberPart × ℕ)) → IsPermutation a b → AllByRecursion P (numbers_told key b) → AllByRecursion P (numbers_told key a)
-told_back P key a b moved all = told_moved P key b a (IsPermutation-sym a b moved) all
-
 -- ---- sums of rows
 
 -- what holds of each sum, and of a new one, holds of each after a cost is added
@@ -63,31 +56,3 @@ all_with Q part cost new more (e ∷ es) all = go (numbers_cmp part e.0) (all_wi
     go Less rest = (new, all)
     go Equal rest = (more e all.0, all.1)
     go Greater rest = (all.0, rest)
-
--- a row tells what its part tells
-row_tells : (P : ℕ → Type 0) (key : Key) (row : CellRow ℕ) → P row.object → P row.file → P row.function → AllByRecursion P (told key (numbers_part key row))
-row_tells P Object row object file function = (object, tt)
-row_tells P File row object file function = (file, tt)
-row_tells P Function row object file function = (object, (function, tt))
-row_tells P Line row object file function = (file, tt)
-row_tells P Thread row object file function = tt
-
--- of the numbers of a row's names
-abbrev pub NamesAll : (ℕ → Type 0) → CellRow ℕ → Type 0
-NamesAll P row = P row.object × P row.file × P row.function
-
-rows_tell : (P : ℕ → Type 0) (rows : List (CellRow ℕ)) (s : SumsByNumber) → AllByRecursion (NamesAll P) rows → AllByRecursion (TellsAll P s.key) s.sums
-    → AllByRecursion (TellsAll P (fold with_number s rows).key) (fold with_number s rows).sums
-rows_tell P [] s all each = each
-rows_tell P (row ∷ rows) s all each = rows_tell P rows (with_number s row) all.1 (elim (cases_Bool (nat_eq row.cost 0)) [
-  | inl none ↦ rw none each
-  | inr some ↦ rw some (all_with (TellsAll P s.key) (numbers_part s.key row) row.cost (row_tells P s.key row all.0.0 all.0.1 all.0.2) (λ e tells. tells) s.sums each)
-])
-
--- what holds of each number of the rows' names holds of each number that their sums tell
-pub told_of_rows : (P : ℕ → Type 0) (key : Key) (rows : List (CellRow ℕ)) → AllByRecursion (NamesAll P) rows
-    → AllByRecursion P (numbers_told key (fold with_number (record { key = key; sums = [] }) rows).sums)
-told_of_rows P key rows all =
-    let s : SumsByNumber = fold with_number (record { key = key; sums = [] }) rows in
-    told_all P key s.sums
-    (subst (λ (k : Key). AllByRecursion (TellsAll P k) s.sums) (rows_keep_key rows (record { key = key; sums = [] })) (rows_tell P rows (record { key = key; sums = [] }) all tt))

@@ -2,9 +2,10 @@
 ghost use Rattle.std.specs.Prelude.{◌≡◌, ◌+◌, ◌∷◌, ◌<◌, ◌^◌, [], fold, OnOk, IfOk};
 ghost use Rattle.cost_rows.specs.KeySums.{sums_by, total_of, with_row};
 ghost use Rattle.cost_rows.specs.Plain.{plain_cell};
+ghost use Rattle.cost_rows.specs.Keys.{lent_place};
 ghost use Rattle.report_texts.specs.Differences.{difference_of};
 ghost use Rattle.report_texts.specs.KeyReports.{report_of};
-ghost use Rattle.cost_reports.specs.Rows.{given_sums, lent_place};
+ghost use Rattle.cost_reports.specs.Rows.{given_sums};
 ghost use Rattle.prof_library.specs.Given.{cost_of, plain_cells};
 
 use cost_reports::{Cut, Difference, LentPlace, LentSums, Report};

@@ -1,17 +1,17 @@
 -- The lines of a source, each with what it cost.
-use Rattle.std.specs.Prelude.{ℕ, ◌+◌, Bool, true, false, ◌==◌, ◌||◌, ◌&&◌, nat_lt, bytes_eq, if◌then◌else◌, List, [], ◌∷◌, ◌++◌, length, map, flat_map, codes}
+use Rattle.std.specs.Prelude.{ℕ, ◌+◌, Bool, true, false, ◌==◌, ◌||◌, nat_lt, bytes_eq, if◌then◌else◌, List, [], ◌∷◌, ◌++◌, length, map, flat_map, codes}
 use Rattle.std.specs.Fmt.{decimal}
 use Rattle.std.specs.List.{list_any}
 use Rattle.std.specs.Ordering.{nat_cmp}
 use Rattle.std.specs.Str.Lines.{strip_carriage_return}
 use Rattle.cg_text.specs.Lines.{lines_of, numbered}
 use Rattle.cost_rows.specs.Merging.{sum_where}
-use Rattle.cost_rows.specs.Sums.{Spot}
+use Rattle.cost_rows.specs.Sums.{Spot, costs_at}
 use Rattle.cost_rows.specs.Walks.{HaveCosts}
 use Rattle.cost_rows.specs.declared.rows.CellRow.{CellRow}
 use Rattle.report_texts.specs.Costs.{EventCells, EventRecords, all_costs}
 use Rattle.byte_io.specs.Escapes.{escaped}
-use Rattle.profile_records.specs.Records.{Record, Own, Called}
+use Rattle.profile_records.specs.Records.{Record}
 use Rattle.report_texts.specs.Amounts.{amount_of, with_amount}
 
 -- what is said of a file: the lines of its places, each with its cost
@@ -94,8 +94,7 @@ annotation_text event a = annotation_head a.file event ++ (sum_line a.total (cod
 
 -- a record is a self record of the file, and costs something in some column
 abbrev pub costs_something_in : List ℕ → Record → Bool
-costs_something_in file (Own cost) = bytes_eq cost.file file && list_any (nat_lt 0) cost.costs
-costs_something_in file (Called callee cost) = false
+costs_something_in file = costs_at (λ (p : Spot). bytes_eq p.file file)
 
 abbrev pub knows_file : List ℕ → List Record → Bool
 knows_file file records = list_any (costs_something_in file) records

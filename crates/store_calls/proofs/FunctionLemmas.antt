@@ -1,18 +1,20 @@
 -- The calls of a function over runs are those of the files of a selection, and so is whether it is known.
 use Rattle.std.proofs.Common.{◌≡◌, ℕ, zero, suc, ◌+◌, ◌<◌, Bool, true, false, not, ◌&&◌, ◌||◌, ◌==◌, nat_lt, if◌then◌else◌, List, [], ◌∷◌, map, fold, slice_index, Option, Some, None, Result, Ok, Err, refl, sym, ap, ap₂, subst, ◌∙◌, arith}
+use Rattle.std.proofs.lemmas.Bool.{and_from, and_parts, lt-ltb, ltb-true, or_left, or_right}
+use Rattle.std.proofs.Math.Bool.{or-false, or_assoc}
 use Rattle.std.specs.Prelude.{unwrap_or}
 use Rattle.std.specs.List.{list_any, AllByRecursion}
-use Rattle.std.proofs.lemmas.Bool.Decides.{nat_tests}
 use Rattle.std.proofs.lemmas.Grind.{fold-append}
 use Rattle.plain_tables.specs.Lists.{Has}
 use Rattle.cost_rows.specs.Keys.{place_of_row}
 use Rattle.cost_rows.specs.StackSums.{frames_sum}
-use Rattle.cost_rows.specs.Sums.{Spot, callee_spot, caller_spot, has_call, self_sum, spot_of}
+use Rattle.cost_rows.specs.Sums.{Spot, callee_spot, caller_spot, costs_at, has_call, spot_of}
 use Rattle.cost_rows.specs.WalkSums.{has_calls, rows_cost, stacks_count}
 use Rattle.cost_rows.specs.Walks.{HaveCosts, HaveCounts}
 use Rattle.cost_rows.specs.declared.rows.ArcRow.{ArcRow}
 use Rattle.cost_rows.specs.declared.rows.CellRow.{CellRow}
 use Rattle.cost_rows.specs.declared.rows.StackRow.{StackRow}
+use Rattle.cost_rows.proofs.KnownLemmas.{cells_know, same_tests}
 use Rattle.report_texts.specs.Calls.{Calls, CallsRepresentEach, EventEdges, all_edges, all_calls, call_report_of, call_report_text, calls_by, weighted_calls, with_calls}
 use Rattle.report_texts.specs.Functions.{function_spot, is_one_function}
 use Rattle.report_texts.specs.Inclusive.{is_frame}
@@ -47,16 +49,6 @@ use Rattle.selected_runs.specs.declared.counting.Counted.{Counted}
 use Rattle.selected_runs.proofs.EventLemmas.{both_held, event_runs_told}
 use Rattle.selected_runs.proofs.RunLemmas.{AreRunsOf, are_runs, selected_held}
 
--- ---- tests, one after another
-
-pub or_then : (a b c : Bool) → (a || b) || c ≡ a || (b || c)
-or_then true b c = refl
-or_then false b c = refl
-
-pub or_none : (a : Bool) → a ≡ a || false
-or_none true = refl
-or_none false = refl
-
 -- ---- runs, one after another
 
 module _ {M : Type 0} {P : Type 0} (taken : M → Taken) (t : Tables) (given : P) where
@@ -73,15 +65,15 @@ module _ {M : Type 0} {P : Type 0} (taken : M → Taken) (t : Tables) (given : P
 
 pub seen_added : {P : Type 0} (is_in : Counted → Bool) → P → (runs : List Counted) (before after : Bool) → AreAdded (λ run old new. P → new ≡ old || is_in run) runs before after
     → after ≡ before || list_any is_in runs
-seen_added is_in given [] before after all = all ∙ or_none before
+seen_added is_in given [] before after all = all ∙ sym (or-false before)
 seen_added is_in given (run ∷ runs) before after all =
-    seen_added is_in given runs all.0 after all.2 ∙ ap (λ b. b || list_any is_in runs) (all.1 given) ∙ or_then before (is_in run) (list_any is_in runs)
+    seen_added is_in given runs all.0 after all.2 ∙ ap (λ b. b || list_any is_in runs) (all.1 given) ∙ or_assoc before (is_in run) (list_any is_in runs)
 
 -- ---- what was taken
 
 taken_known : (m : Taken) (calls : List Calls) → (fold with_call m calls).known ≡ m.known || list_any (touches m.function) calls
-taken_known m [] = or_none m.known
-taken_known m (c ∷ calls) = taken_known (with_call m c) calls ∙ or_then m.known (touches m.function c) (list_any (touches m.function) calls)
+taken_known m [] = sym (or-false m.known)
+taken_known m (c ∷ calls) = taken_known (with_call m c) calls ∙ or_assoc m.known (touches m.function c) (list_any (touches m.function) calls)
 
 taken_calls : (m : Taken) (calls : List Calls) → (fold with_call m calls).calls ≡ fold with_calls m.calls calls
 taken_calls m [] = refl
@@ -118,62 +110,9 @@ text_unknown t runs event m known told is = ap (λ b. if b then Some (call_repor
 
 -- ---- rows and records know the same functions
 
-same_tests : (a b : Bool) → (a ≡ true → b ≡ true) → (b ≡ true → a ≡ true) → a ≡ b
-same_tests true b one two = sym (one refl)
-same_tests false true one two = two refl
-same_tests false false one two = refl
-
-or_first : (a b : Bool) → a ≡ true → a || b ≡ true
-or_first true b is = refl
-or_first false b is = absurd cc
-
-or_second : (a b : Bool) → b ≡ true → a || b ≡ true
-or_second true b is = refl
-or_second false b is = is
-
-above_is : (n : ℕ) → 0 < n → nat_lt 0 n ≡ true
-above_is n low = grind (arith, nat_tests)
-
-is_above : (n : ℕ) → nat_lt 0 n ≡ true → 0 < n
-is_above n is = grind (arith, nat_tests)
-
-same_number : (n : ℕ) → (n == n) ≡ true
-same_number n = grind (arith, nat_tests)
-
-both_true : (a b : Bool) → a ≡ true → b ≡ true → a && b ≡ true
-both_true true b one two = two
-both_true false b one two = absurd cc
-
-first_true : (a b : Bool) → a && b ≡ true → a ≡ true
-first_true true b is = refl
-first_true false b is = is
-
-second_true : (a b : Bool) → a && b ≡ true → b ≡ true
-second_true true b is = is
-second_true false b is = absurd cc
-
--- a cost above 0, and its column
-some_cost : (costs : List ℕ) → list_any (nat_lt 0) costs ≡ true → (k : ℕ) × (0 < slice_index costs k)
-some_cost [] is = absurd cc
-some_cost (cost ∷ costs) is = go (nat_lt 0 cost) refl is (some_cost costs)
-  where
-    go : (b : Bool) → nat_lt 0 cost ≡ b → b || list_any (nat_lt 0) costs ≡ true → (list_any (nat_lt 0) costs ≡ true → (k : ℕ) × (0 < slice_index costs k)) → (k : ℕ) × (0 < slice_index (cost ∷ costs) k)
-    go true here any rest = (0, is_above cost here)
-    go false here any rest = let later = rest any in (suc later.0, later.1)
-
-cost_there : (costs : List ℕ) (k : ℕ) → 0 < slice_index costs k → list_any (nat_lt 0) costs ≡ true
-cost_there [] k low = absurd (let n : ℕ = 0 in omega (arith, low))
-cost_there (cost ∷ costs) zero low = or_first (nat_lt 0 cost) (list_any (nat_lt 0) costs) (above_is cost low)
-cost_there (cost ∷ costs) (suc k) low = or_second (nat_lt 0 cost) (list_any (nat_lt 0) costs) (cost_there costs k low)
-
 module _ (f : Spot) where
   abbrev of_f : Spot → Bool
   of_f p = is_one_function p f
-
-  -- own records, apart from calls
-  abbrev self_tells : Record → Bool
-  self_tells (Own cost) = is_one_function (spot_of cost) f && list_any (nat_lt 0) cost.costs
-  self_tells (Called callee cost) = false
 
   abbrev either : Spot → Spot → Bool
   either p q = is_one_function p f || is_one_function q f
@@ -183,62 +122,11 @@ module _ (f : Spot) where
   or_swap true false c = refl
   or_swap false b c = refl
 
-  apart : (records : List Record) → list_any (tells_of f) records ≡ has_call either records || list_any self_tells records
+  apart : (records : List Record) → list_any (tells_of f) records ≡ has_call either records || list_any (costs_at of_f) records
   apart [] = refl
-  apart (Own cost ∷ records) = ap (λ b. self_tells (Own cost) || b) (apart records) ∙ or_swap (self_tells (Own cost)) (has_call either records) (list_any self_tells records)
+  apart (Own cost ∷ records) = ap (λ b. costs_at of_f (Own cost) || b) (apart records) ∙ or_swap (costs_at of_f (Own cost)) (has_call either records) (list_any (costs_at of_f) records)
   apart (Called callee cost ∷ records) =
-      ap (λ b. either (caller_spot cost) (callee_spot callee) || b) (apart records) ∙ sym (or_then (either (caller_spot cost) (callee_spot callee)) (has_call either records) (list_any self_tells records))
-
-  self_positive : (k : ℕ) (records : List Record) → 0 < self_sum of_f k records → list_any self_tells records ≡ true
-  self_positive k [] low = absurd (omega (arith, low))
-  self_positive k (Own cost ∷ records) low = go (of_f (spot_of cost)) (slice_index cost.costs k) refl (cost_there cost.costs k) low (self_positive k records)
-    where
-      go : (b : Bool) (n : ℕ) → of_f (spot_of cost) ≡ b → (0 < n → list_any (nat_lt 0) cost.costs ≡ true) → 0 < (if b then n else 0) + self_sum of_f k records
-          → (0 < self_sum of_f k records → list_any self_tells records ≡ true) → (of_f (spot_of cost) && list_any (nat_lt 0) cost.costs) || list_any self_tells records ≡ true
-      go true zero here any low rest = or_second _ _ (rest (omega (arith, low)))
-      go true (suc n) here any low rest = or_first _ _ (both_true _ _ here (any (omega arith)))
-      go false n here any low rest = or_second _ _ (rest (omega (arith, low)))
-  self_positive k (Called callee cost ∷ records) low = self_positive k records low
-
-  self_there : (records : List Record) → list_any self_tells records ≡ true → (k : ℕ) × (0 < self_sum of_f k records)
-  self_there [] is = absurd cc
-  self_there (Own cost ∷ records) is = go (self_tells (Own cost)) refl is (self_there records)
-    where
-      go : (b : Bool) → self_tells (Own cost) ≡ b → b || list_any self_tells records ≡ true → (list_any self_tells records ≡ true → (k : ℕ) × (0 < self_sum of_f k records))
-          → (k : ℕ) × (0 < self_sum of_f k (Own cost ∷ records))
-      go true here any rest =
-          let column = some_cost cost.costs (second_true (of_f (spot_of cost)) (list_any (nat_lt 0) cost.costs) here) in
-          let at = first_true (of_f (spot_of cost)) (list_any (nat_lt 0) cost.costs) here in
-          let low = column.1 in
-          (column.0, subst (λ b. 0 < (if b then slice_index cost.costs column.0 else 0) + self_sum of_f column.0 records) (sym at) (omega (arith, low)))
-      go false here any rest = let later = rest any in let low = later.1 in (later.0, omega (arith, low))
-  self_there (Called callee cost ∷ records) is = self_there records is
-
-  cells_positive : (k : ℕ) (cells : List (CellRow (List ℕ))) → 0 < rows_cost of_f k cells → is_in_cells f cells ≡ true
-  cells_positive k [] low = absurd (omega (arith, low))
-  cells_positive k (r ∷ cells) low = go (of_f (place_of_row r)) (r.event == k) refl low (cells_positive k cells)
-    where
-      go : (a b : Bool) → of_f (place_of_row r) ≡ a → 0 < (if a && b then r.cost else 0) + rows_cost of_f k cells → (0 < rows_cost of_f k cells → is_in_cells f cells ≡ true)
-          → of_f (place_of_row r) || is_in_cells f cells ≡ true
-      go true b here low rest = or_first _ _ here
-      go false b here low rest = or_second _ _ (rest (omega (arith, low)))
-
-  cell_there : (cells : List (CellRow (List ℕ))) → HaveCosts cells → is_in_cells f cells ≡ true → (k : ℕ) × (0 < rows_cost of_f k cells)
-  cell_there [] above is = absurd cc
-  cell_there (r ∷ cells) above is = go (of_f (place_of_row r)) refl is (cell_there cells above.1)
-    where
-      low : 0 < r.cost
-      low = above.0
-
-      go : (b : Bool) → of_f (place_of_row r) ≡ b → b || is_in_cells f cells ≡ true → (is_in_cells f cells ≡ true → (k : ℕ) × (0 < rows_cost of_f k cells)) → (k : ℕ) × (0 < rows_cost of_f k (r ∷ cells))
-      go true here any rest = (r.event, subst (λ b. 0 < (if b then r.cost else 0) + rows_cost of_f r.event cells) (sym (both_true _ _ here (same_number r.event))) (omega (arith, low)))
-      go false here any rest = let later = rest any in let some = later.1 in (later.0, omega (arith, some))
-
-  cells_know : (cells : List (CellRow (List ℕ))) (records : List Record) → HaveCosts cells → ((passes : Spot → Bool) (k : ℕ) → rows_cost passes k cells ≡ self_sum passes k records)
-      → is_in_cells f cells ≡ list_any self_tells records
-  cells_know cells records above same = same_tests _ _
-      (λ is. let there = cell_there cells above is in self_positive there.0 records (subst (λ n. 0 < n) (same of_f there.0) there.1))
-      (λ is. let there = self_there records is in cells_positive there.0 cells (subst (λ n. 0 < n) (sym (same of_f there.0)) there.1))
+      ap (λ b. either (caller_spot cost) (callee_spot callee) || b) (apart records) ∙ sym (or_assoc (either (caller_spot cost) (callee_spot callee)) (has_call either records) (list_any (costs_at of_f) records))
 
   stacks_positive : (stacks : List (StackRow (List ℕ))) → 0 < stacks_count (is_frame f) stacks → is_in_stacks f stacks ≡ true
   stacks_positive [] low = absurd (omega (arith, low))
@@ -246,8 +134,8 @@ module _ (f : Spot) where
     where
       go : (b : Bool) → is_frame f r.stack ≡ b → 0 < (if b then r.count else 0) + stacks_count (is_frame f) stacks → (0 < stacks_count (is_frame f) stacks → is_in_stacks f stacks ≡ true)
           → is_frame f r.stack || is_in_stacks f stacks ≡ true
-      go true here low rest = or_first _ _ here
-      go false here low rest = or_second _ _ (rest (omega (arith, low)))
+      go true here low rest = or_left _ _ here
+      go false here low rest = or_right _ _ (rest (omega (arith, low)))
 
   stack_there : (stacks : List (StackRow (List ℕ))) → HaveCounts stacks → is_in_stacks f stacks ≡ true → 0 < stacks_count (is_frame f) stacks
   stack_there [] above is = absurd cc
@@ -266,9 +154,9 @@ module _ (f : Spot) where
     where
       go : (b : Bool) (n : ℕ) → is_frame f s.stack.frames ≡ b → s.stack.count ≡ n → 0 < (if b then n else 0) + frames_sum (is_frame f) seen → (0 < frames_sum (is_frame f) seen → list_any (is_seen_in f) seen ≡ true)
           → (nat_lt 0 s.stack.count && is_frame f s.stack.frames) || list_any (is_seen_in f) seen ≡ true
-      go true zero here count low rest = or_second _ _ (rest (omega (arith, low)))
-      go true (suc n) here count low rest = or_first _ _ (both_true _ _ (above_is s.stack.count (omega (arith, count))) here)
-      go false n here count low rest = or_second _ _ (rest (omega (arith, low)))
+      go true zero here count low rest = or_right _ _ (rest (omega (arith, low)))
+      go true (suc n) here count low rest = or_left _ _ (and_from _ _ (lt-ltb 0 s.stack.count (omega (arith, count))) here)
+      go false n here count low rest = or_right _ _ (rest (omega (arith, low)))
 
   seen_there : (seen : List Seen) → list_any (is_seen_in f) seen ≡ true → 0 < frames_sum (is_frame f) seen
   seen_there [] is = absurd cc
@@ -276,8 +164,8 @@ module _ (f : Spot) where
     where
       go : (b : Bool) → is_seen_in f s ≡ b → b || list_any (is_seen_in f) seen ≡ true → (list_any (is_seen_in f) seen ≡ true → 0 < frames_sum (is_frame f) seen) → 0 < frames_sum (is_frame f) (s ∷ seen)
       go true here any rest =
-          let low = is_above s.stack.count (first_true _ (is_frame f s.stack.frames) here) in
-          let at = second_true (nat_lt 0 s.stack.count) (is_frame f s.stack.frames) here in
+          let low = ltb-true 0 s.stack.count (and_parts (nat_lt 0 s.stack.count) (is_frame f s.stack.frames) here).0 in
+          let at = (and_parts (nat_lt 0 s.stack.count) (is_frame f s.stack.frames) here).1 in
           subst (λ b. 0 < (if b then s.stack.count else 0) + frames_sum (is_frame f) seen) (sym at) (omega (arith, low))
       go false here any rest = let some = rest any in omega (arith, some)
 
@@ -298,8 +186,8 @@ module _ (f : Spot) where
       let told = tells_rows h t represent file there in
       let records = records_of file.format file.bytes in
       ap₂ (λ a b. a || b) (calls_touch coefs edges ∙ (told.calls edges are).called either)
-      (ap₂ (λ a b. a || b) (cells_know (cells_held file.number t) records told.cells_above told.cells) (stacks_know (stacks_held file.number t) (stacks_of file.format file.bytes) told.stacks_above told.stacks))
-      ∙ sym (or_then (has_call either records) (list_any self_tells records) (list_any (is_seen_in f) (stacks_of file.format file.bytes)))
+      (ap₂ (λ a b. a || b) (cells_know of_f (cells_held file.number t) records told.cells_above told.cells) (stacks_know (stacks_held file.number t) (stacks_of file.format file.bytes) told.stacks_above told.stacks))
+      ∙ sym (or_assoc (has_call either records) (list_any (costs_at of_f) records) (list_any (is_seen_in f) (stacks_of file.format file.bytes)))
       ∙ ap (λ b. b || list_any (is_seen_in f) (stacks_of file.format file.bytes)) (sym (apart records))
 
   shuffled : (a b c d : Bool) → (a || b) || (c || d) ≡ (a || c) || (b || d)

@@ -1,5 +1,6 @@
 -- Calls that are kept by number, with names in place, are those that are taken by name.
 use Rattle.std.proofs.Common.{◌≡◌, ◌≢◌, ℕ, ◌+◌, ◌≤◌, Bool, true, false, ◌&&◌, ◌||◌, if◌then◌else◌, List, [], ◌∷◌, ◌++◌, map, fold, bytes_eq, get_or, Fits, w8, refl, sym, ap, ap₂, ◌∙◌, arith}
+use Rattle.std.proofs.Math.Bool.{or-false, or_assoc}
 use Rattle.std.specs.Prelude.{unwrap_or}
 use Rattle.std.proofs.lemmas.Grind.{fold-append}
 use Rattle.std.proofs.lemmas.List.{map-append}
@@ -32,7 +33,6 @@ use Rattle.store_calls.specs.declared.asked_functions.AskedFunction.{AskedFuncti
 use Rattle.store_calls.specs.declared.asked_functions.FunctionNumbers.{FunctionNumbers}
 use Rattle.store_calls.specs.declared.kept_rows.KeptCall.{KeptCall}
 use Rattle.store_calls.specs.declared.kept_rows.KeptCalls.{KeptCalls}
-use Rattle.store_calls.proofs.FunctionLemmas.{or_none, or_then}
 
 -- ---- one function
 
@@ -166,17 +166,17 @@ seconds_more held c = go (is_one_function held.function (asked held.side c))
 
 pub cells_sought : (names : List NameRow) (of : AskedFunction) → IsAsked names of → (b : Bool) (lines : List StoredCell)
     → fold with_cell_sought (of, b) (map cell_numbers lines) ≡ (of, b || is_in_cells (spot_asked of) (map (cell_held names) lines))
-cells_sought names of is b [] = ap (λ a. (of, a)) (or_none b)
+cells_sought names of is b [] = ap (λ a. (of, a)) (sym (or-false b))
 cells_sought names of is b (line ∷ lines) =
     let f = spot_asked of in
     let here = has_numbers of.numbers line.object line.function in
     let cells = map (cell_held names) lines in
     cells_sought names of is (b || here) lines
-    ∙ ap (λ a. (of, a)) (or_then b here (is_in_cells f cells))
+    ∙ ap (λ a. (of, a)) (or_assoc b here (is_in_cells f cells))
     ∙ ap (λ a. (of, b || (a || is_in_cells f cells))) (is line.object line.function)
 
 pub stacks_sought : (of : AskedFunction) (b : Bool) (stacks : List (StackRow (List ℕ))) → fold with_stack_sought (of, b) stacks ≡ (of, b || is_in_stacks (spot_asked of) stacks)
-stacks_sought of b [] = ap (λ a. (of, a)) (or_none b)
+stacks_sought of b [] = ap (λ a. (of, a)) (sym (or-false b))
 stacks_sought of b (r ∷ stacks) =
     let here = is_frame (spot_asked of) r.stack in
-    stacks_sought of (b || here) stacks ∙ ap (λ a. (of, a)) (or_then b here (is_in_stacks (spot_asked of) stacks))
+    stacks_sought of (b || here) stacks ∙ ap (λ a. (of, a)) (or_assoc b here (is_in_stacks (spot_asked of) stacks))

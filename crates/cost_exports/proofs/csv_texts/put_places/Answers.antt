@@ -2,10 +2,11 @@ use Rattle.std.proofs.Common.{◌≡◌, ◌++◌, ℕ, List, [], slice_index_or
 use Rattle.std.proofs.lemmas.Grind.{flat_map-append}
 use Rattle.std.proofs.lemmas.List.{append-nil, append_assoc}
 use Rattle.report_texts.specs.Csv.{csv_row, csv_rows}
+use Rattle.std.proofs.lemmas.Option.{unwrap_or-slice_get}
 use Rattle.cost_exports.specs.Pieces.{IsOn}
 use Rattle.cost_exports.specs.Views.{held_names, held_slots, placed, spread, sums_in, with_lines}
 use Rattle.cost_exports.proofs.PieceLemmas.{cut_on, passed}
-use Rattle.cost_exports.proofs.SlotLemmas.{Lines, slot-lines}
+use Rattle.cost_exports.proofs.SlotLemmas.{Lines}
 use Rattle.cost_exports.proofs.csv_texts.put_places.Goals as goal
 
 pub loop-names-preserved-in-Continue-1 : goal.loop-names-preserved-in-Continue-1
@@ -14,7 +15,7 @@ loop-names-preserved-in-Continue-1 g c from text on =
     let all = c.args.places.now.lines in
     let lines = c.in-Some-lines.lines.now in
     let more = spread (with_lines all (held_slots c.next.new.self)) in
-    let here : slice_index_or all c.in-Some.slot.now [] ≡ lines = sym (slot-lines all c.in-Some.slot.now) ∙ ap (λ o. unwrap_or o []) (sym c.in-Some-lines.ensures) in
+    let here : slice_index_or all c.in-Some.slot.now [] ≡ lines = sym (unwrap_or-slice_get all c.in-Some.slot.now []) ∙ ap (λ o. unwrap_or o []) (sym c.in-Some-lines.ensures) in
     let rows = csv_rows (placed names lines) in
     let step = ap (λ slots. csv_rows (spread (with_lines all (held_slots slots)))) c.in-Some.ensures.steps
     ∙ ap (λ (x : Lines). csv_rows (placed names x ++ more)) here
@@ -28,7 +29,7 @@ returns-in_err-put_lines g c from text on =
     let all = c.args.places.now.lines in
     let lines = c.in-Some-lines.lines.now in
     let more = spread (with_lines all (held_slots c.next.new.self)) in
-    let here : slice_index_or all c.in-Some.slot.now [] ≡ lines = sym (slot-lines all c.in-Some.slot.now) ∙ ap (λ o. unwrap_or o []) (sym c.in-Some-lines.ensures) in
+    let here : slice_index_or all c.in-Some.slot.now [] ≡ lines = sym (unwrap_or-slice_get all c.in-Some.slot.now []) ∙ ap (λ o. unwrap_or o []) (sym c.in-Some-lines.ensures) in
     let rows = csv_rows (placed names lines) in
     let step = ap (λ slots. csv_rows (spread (with_lines all (held_slots slots)))) c.in-Some.ensures.steps
     ∙ ap (λ (x : Lines). csv_rows (placed names x ++ more)) here
@@ -44,7 +45,7 @@ loop-names-preserved g c from text on =
     let names = held_names c.in-Some.names.now in
     let all = c.args.places.now.lines in
     let more = spread (with_lines all (held_slots c.next.new.self)) in
-    let here : slice_index_or all c.in-Some.slot.now [] ≡ [] = sym (slot-lines all c.in-Some.slot.now) ∙ ap (λ o. unwrap_or o []) (sym c.in_default.ensures) in
+    let here : slice_index_or all c.in-Some.slot.now [] ≡ [] = sym (unwrap_or-slice_get all c.in-Some.slot.now []) ∙ ap (λ o. unwrap_or o []) (sym c.in_default.ensures) in
     let step = ap (λ slots. csv_rows (spread (with_lines all (held_slots slots)))) c.in-Some.ensures.steps
     ∙ ap (λ (x : Lines). csv_rows (placed names x ++ more)) here in
     let was = c.loop-names.invariant from text on in

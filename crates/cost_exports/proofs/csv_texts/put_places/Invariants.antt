@@ -1,4 +1,4 @@
-use Rattle.std.proofs.Common.{◌≡◌, ◌++◌, ℕ, List, Option}
+use Rattle.std.proofs.Common.{◌≡◌, ◌++◌, ℕ, List}
 use Rattle.report_texts.specs.Csv.{csv_rows}
 use Rattle.cost_exports.specs.Pieces.{IsOn}
 use Rattle.cost_exports.specs.Views.{held_slots, spread, sums_in, with_lines}

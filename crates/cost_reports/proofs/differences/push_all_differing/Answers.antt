@@ -1,7 +1,8 @@
 use Rattle.std.proofs.Common.{◌≡◌, ◌++◌, ◌∷◌, List, Some, refl, sym, ap, ap₂, subst, ◌∙◌}
+use Rattle.cost_rows.specs.Keys.{lent_place}
 use Rattle.report_texts.specs.Differences.{beside, differing}
 use Rattle.cost_reports.specs.InStep.{from_row, left_of, ComesNext, IsInOrder}
-use Rattle.cost_reports.specs.Rows.{lent_place, lent_sums, plain_differences}
+use Rattle.cost_reports.specs.Rows.{lent_sums, plain_differences}
 use Rattle.cost_reports.specs.declared.rows.DifferenceRow.{DifferenceRow}
 use Rattle.cost_reports.proofs.StepLemmas.{differing_so_far, next_left, now_left}
 use Rattle.cost_reports.proofs.differences.push_all_differing.Goals.{then-next, else-next}

@@ -1,25 +1,27 @@
-use Rattle.std.proofs.Common.{refl, ◌∙◌, ap, arith}
+use Rattle.std.proofs.Common.{refl, sym, ◌∙◌, ap, arith}
 use Rattle.std.specs.BTreeMap.{is_at, insert_entry}
-use Rattle.cost_rows.specs.Keys.{named_cmp}
+use Rattle.std.proofs.lemmas.Cmp.{on_total}
+use Rattle.cost_rows.specs.Keys.{lent_place, named_cmp}
 use Rattle.cost_rows.proofs.KeysLemmas.{named_cmp-total}
-use Rattle.cost_rows.proofs.SeenLemmas.{key_cmp, seen-lookup}
+use Rattle.cost_rows.proofs.MergeLemmas.{merge-new, merge-written}
+use Rattle.cost_rows.proofs.SeenLemmas.{key_cmp, seen-lookup, seen-with}
 use Rattle.report_texts.specs.Pairs.{pairs_added, pair_total}
 use Rattle.report_texts.specs.declared.pairs.Pair.{Pair}
-use Rattle.cost_reports.specs.Rows.{lent_place, lent_pairs}
+use Rattle.cost_reports.specs.Rows.{lent_pairs}
 use Rattle.cost_reports.proofs.PairLemmas.{pair_least, total_with}
-use Rattle.cost_reports.proofs.WrittenLemmas.{seen-written, seen-new}
 use Rattle.cost_reports.proofs.pair_sums.merge_pair.Goals as goal
 
 pub returns-in-Some-clause-ok : goal.returns-in-Some-clause-ok
 returns-in-Some-clause-ok c =
-    seen-written lent_place named_cmp named_cmp-total pairs_added c.args.sums.now (c.get_mut.follows.lender c.plus.result) (lent_place c.args.place) c.in-Some.sum.now c.plus.result c.args.pair
-    (c.get_mut.follows.holds c.plus.result) c.get_mut.ensures.ordered c.in-Some.ensures.value c.plus.ensures
+    seen-with lent_place named_cmp pairs_added c.args.sums.now.entries _ c.args.place (lent_place c.args.place) c.args.pair
+    (merge-written (on_total lent_place named_cmp-total) pairs_added c.args.sums.now (c.get_mut.follows.lender c.plus.result) c.args.place c.in-Some.sum.now c.plus.result c.args.pair
+    (c.get_mut.follows.holds c.plus.result) c.get_mut.ensures.ordered c.in-Some.ensures.value c.plus.ensures) refl
 
 pub returns-in_ok-insert-in-None-clause-ok : goal.returns-in_ok-insert-in-None-clause-ok
 returns-in_ok-insert-in-None-clause-ok c =
-    seen-new lent_place named_cmp named_cmp-total pairs_added c.args.sums.now c.insert.new.self (lent_place c.args.place) c.args.place c.args.pair c.args.pair
-    (c.in_ok-insert-in-None.ensures.entries ∙ ap (λ m. insert_entry (key_cmp lent_place named_cmp) m.entries c.args.place c.args.pair) c.get_mut.follows.holds-at-none)
-    c.in-None.ensures.value refl refl
+    seen-with lent_place named_cmp pairs_added c.args.sums.now.entries c.insert.new.self.entries c.args.place (lent_place c.args.place) c.args.pair
+    (c.in_ok-insert-in-None.ensures.entries ∙ ap (λ m. insert_entry (key_cmp lent_place named_cmp) m.entries c.args.place c.args.pair) c.get_mut.follows.holds-at-none
+    ∙ merge-new (on_total lent_place named_cmp-total) pairs_added c.args.sums.now.entries c.args.place c.args.pair (sym c.in-None.ensures.value)) refl
 
 pub plus-requires-clause-first : goal.plus-requires-clause-first
 plus-requires-clause-first c =

@@ -2,8 +2,10 @@ use Rattle.std.proofs.Common.{◌≡◌, ◌++◌, [], ◌∷◌, None, length, 
 use Rattle.std.specs.BTreeMap.{insert_entry}
 use Rattle.cost_rows.specs.Merging.{seen}
 use Rattle.cost_rows.proofs.SeenLemmas.{seen-insert, seen-sorted}
+use Rattle.cost_rows.proofs.SlotsLemmas.{are-put, put-found}
 use Rattle.cost_exports.specs.Views.{PlaceNames, Slotted, held_names, held_slots, names_cmp, slot_of, sums_in}
-use Rattle.cost_exports.proofs.SlotLemmas.{are-put, put-found, slot-put}
+use Rattle.cost_exports.proofs.SlotLemmas.{slot-put}
+use Rattle.cost_exports.proofs.SpreadLemmas.{names-total}
 use Rattle.cost_exports.proofs.places.Places.put.Goals as goal
 
 -- the names go to their place in the order
@@ -25,13 +27,13 @@ absent c = ap (λ (s : Slotted). slot_of (held_names c.args.names.now) s.slots) 
 
 pub invariant_of-self-in_default : goal.invariant_of-self-in_default
 invariant_of-self-in_default c =
-    are-put (held_slots c.self.inside.slots.entries) (held_slots c.insert.new.self.entries) c.self.inside.lines.items c.push.new.self.items
-    (held_names c.args.names.now) c.len-slot.result c.self.invariant (last c) (pushed c) (placed c)
+    are-put names_cmp (held_slots c.self.inside.slots.entries) (held_slots c.insert.new.self.entries) c.self.inside.lines.items c.push.new.self.items
+    (held_names c.args.names.now) c.len-slot.result [] c.self.invariant (last c) (pushed c) (placed c)
     (seen-sorted held_names names_cmp c.insert.new.self.entries c.in_default.ensures.ordered)
 
 pub returns-clause-slot : goal.returns-clause-slot
 returns-clause-slot c =
-    put-found (held_slots c.self.inside.slots.entries) (held_slots c.insert.new.self.entries) (held_names c.args.names.now) c.len-slot.result (placed c)
+    put-found names_cmp names-total (held_slots c.self.inside.slots.entries) (held_slots c.insert.new.self.entries) (held_names c.args.names.now) c.len-slot.result (placed c)
 
 pub returns-clause-sums : goal.returns-clause-sums
 returns-clause-sums c =

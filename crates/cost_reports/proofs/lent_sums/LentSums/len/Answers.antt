@@ -1,7 +1,7 @@
 use Rattle.std.proofs.Common.{length, sym, ap, ◌∙◌}
 use Rattle.cost_rows.specs.KeySums.{Sums}
 use Rattle.cost_rows.proofs.SeenLemmas.{length-seen}
-use Rattle.cost_reports.specs.Rows.{lent_place}
+use Rattle.cost_rows.specs.Keys.{lent_place}
 use Rattle.cost_reports.proofs.lent_sums.LentSums.len.Goals as goal
 
 pub returns : goal.returns

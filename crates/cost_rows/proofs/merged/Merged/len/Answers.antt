@@ -1,6 +1,8 @@
-use Rattle.std.proofs.Common.{length, ◌∙◌, ap}
+use Rattle.std.proofs.Common.{length, sym, ap, ◌∙◌}
+use Rattle.cost_rows.specs.Keys.{plain_place}
 use Rattle.cost_rows.specs.KeySums.{Sums}
+use Rattle.cost_rows.proofs.SeenLemmas.{length-seen}
 use Rattle.cost_rows.proofs.merged.Merged.len.Goals as goal
 
 pub returns : goal.returns
-returns c = c.len.ensures ∙ ap (λ (s : Sums). length s.sums) c.self.view_is
+returns c = c.len.ensures.len ∙ sym (length-seen plain_place c.self.inside.sums.entries) ∙ ap (λ (s : Sums). length s.sums) c.self.view_is

@@ -31,10 +31,10 @@ returns c = λ frames found.
     let slots = by_bytes c.self.inside.slots.entries in
     let counts = c.self.inside.counts.items in
     let here : slot_of_stack frames slots ≡ Some slot = ap (λ (s : Slotted (List ℕ)). slot_of_stack frames s.slots) c.self.view_is ∙ found in
-    let now : c.raise.new.sums ≡ slice_set counts slot (slice_index counts slot + c.args.count) =
+    let now : c.raise.new.counts ≡ slice_set counts slot (slice_index counts slot + c.args.count) =
     c.raise.ensures ∙ ap (λ (xs : List ℕ). slice_set xs slot (slice_index xs slot + c.from.result)) c.as_mut_slice.ensures.value ∙ ap (λ n. slice_set counts slot (slice_index counts slot + n)) c.from.ensures in
-    let size : length c.raise.new.sums ≡ length counts = ap length now ∙ length-set counts slot (slice_index counts slot + c.args.count) in
-    let kept = with_items_is c.self.inside.counts c.raise.new.sums (omega (arith, size, c.self.inside.counts.ok.0)) in
+    let size : length c.raise.new.counts ≡ length counts = ap length now ∙ length-set counts slot (slice_index counts slot + c.args.count) in
+    let kept = with_items_is c.self.inside.counts c.raise.new.counts (omega (arith, size, c.self.inside.counts.ok.0)) in
     ap (λ (xs : List ℕ). with_sums xs slots) (kept ∙ now)
     ∙ slot-raised bytes_cmp bytes_cmp-total slots counts frames slot c.args.count c.self.invariant.are here
     ∙ ap (λ (s : Slotted (List ℕ)). stacks_with frames c.args.count (sums_in s)) c.self.view_is

@@ -1,10 +1,11 @@
-use Rattle.std.proofs.Common.{◌≡◌, ℕ, List, length, ◌∙◌, ap}
+use Rattle.std.proofs.Common.{◌≡◌, ℕ, List, length, slice_index, ◌∙◌, ap}
 use Rattle.std.specs.Map.{remove_entry}
 use Rattle.std.specs.BTreeMap.{is_at}
 use Rattle.cost_rows.specs.Slots.{Slotted, sums_in, with_sums}
 use Rattle.cost_rows.specs.Stacks.{bytes_cmp, by_bytes}
 use Rattle.cost_rows.proofs.SeenLemmas.{seen-remove, seen-sorted}
-use Rattle.cost_rows.proofs.SlotsLemmas.{are-removed, removed}
+use Rattle.cost_rows.proofs.OwnLemmas.{remove-valued}
+use Rattle.cost_rows.proofs.SlotsLemmas.{are-removed}
 use Rattle.cost_rows.proofs.StackCountsLemmas.{none_found}
 use Rattle.cost_rows.proofs.stack_counts.StackCounts.forget.Goals as goal
 use Rattle.cost_rows.proofs.stack_counts.StackCounts.forget.Goals.{After-remove}
@@ -21,5 +22,5 @@ invariant_of-self c = record {
 
 pub returns : goal.returns
 returns c =
-    ap (with_sums c.self.inside.counts.items) (gone c) ∙ removed c.self.inside.counts.items (is_at (bytes_cmp c.args.frames.now)) (by_bytes c.self.inside.slots.entries)
+    ap (with_sums c.self.inside.counts.items) (gone c) ∙ remove-valued (λ n. slice_index c.self.inside.counts.items n) (is_at (bytes_cmp c.args.frames.now)) (by_bytes c.self.inside.slots.entries)
     ∙ ap (λ (s : Slotted (List ℕ)). remove_entry (is_at (bytes_cmp c.args.frames.now)) (sums_in s)) c.self.view_is

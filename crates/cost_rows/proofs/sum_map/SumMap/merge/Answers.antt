@@ -4,8 +4,9 @@ use Rattle.std.specs.BTreeMap.{is_at}
 use Rattle.std.specs.Map.{values_of}
 use Rattle.profile_records.specs.Columns.{added, HaveRoom}
 use Rattle.cost_rows.specs.Merging.{merge}
-use Rattle.cost_rows.specs.Stretches.{sums_at, valued, AreRaised, HaveOwn, IsWithin}
-use Rattle.cost_rows.proofs.StretchLemmas.{front-kept, held-room, held-there, held-within, on_err, own-front, own-put, put-merged, raised-merged}
+use Rattle.cost_rows.specs.Own.{valued}
+use Rattle.cost_rows.specs.Stretches.{sums_at, AreRaised, HaveSums, IsWithin}
+use Rattle.cost_rows.proofs.StretchLemmas.{front-kept, held-room, held-there, held-within, on_err, own-front, sums-own, put-merged, raised-merged}
 use Rattle.cost_rows.proofs.sum_map.SumMap.merge.Goals as goal
 
 pub raise_at-requires-clause-within : goal.raise_at-requires-clause-within
@@ -57,7 +58,7 @@ returns-in_err-stretch-clause-err g c =
 
 pub invariant_of-self-in_err-insert : goal.invariant_of-self-in_err-insert
 invariant_of-self-in_err-insert g c = (
-  subst (λ es. HaveOwn es (length c.put_behind.new.sums.items)) (sym c.in_err-insert.ensures.err)
+  subst (λ es. HaveSums es (length c.put_behind.new.sums.items)) (sym c.in_err-insert.ensures.err)
       (own-front c.self.inside.stretches.entries c.self.inside.sums.items c.put_behind.new.sums.items c.self.invariant.0 c.put_behind.ensures.others),
   tt,
 )
@@ -73,9 +74,9 @@ invariant_of-self-2 g c =
     let sums : List ℕ = c.self.inside.sums.items in
     let more : List ℕ = added (sums_at sums c.unwrap_or-held.result) c.args.costs.now in
     let now : c.put_behind.new.sums.items ≡ sums ++ more = c.in_ok-stretch.ensures.sums in
-    let P : List ℕ → Type 0 = λ xs. HaveOwn c.insert.new.self.entries (length xs) in (
+    let P : List ℕ → Type 0 = λ xs. HaveSums c.insert.new.self.entries (length xs) in (
       subst P (sym now)
-          (own-put g.K.Ord.cmp c.self.inside.stretches.entries c.insert.new.self.entries sums more c.args.key c.in_ok-stretch.stretch c.self.invariant.0
+          (sums-own g.K.Ord.cmp c.self.inside.stretches.entries c.insert.new.self.entries sums more c.args.key c.in_ok-stretch.stretch c.self.invariant.0
           c.in_ok-stretch.ensures.stretch.0 c.in_ok-stretch.ensures.stretch.1 c.in_ok-insert.ensures.entries),
       tt,
     )
