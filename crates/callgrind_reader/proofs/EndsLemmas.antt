@@ -1,5 +1,5 @@
 -- What a file is read as.
-use Rattle.std.proofs.Common.{◌≡◌, ℕ, List, map, Result, Ok, Err, ◌∙◌}
+use Rattle.std.proofs.Common.{ℕ, List, map, Result, Ok, Err, ◌∙◌}
 use Rattle.cg_text.specs.Lines.{lines_of}
 use Rattle.cg_text.specs.Readings.{reading_of}
 use Rattle.cg_formulas.specs.declared.heads.FileHead.{FileHead}

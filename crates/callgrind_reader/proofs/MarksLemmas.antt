@@ -1,10 +1,10 @@
 -- Marks of names, and what was told of them.
-use Rattle.std.proofs.Common.{◌≡◌, ◌⊎◌, inl, inr, ℕ, List, Option, Some, unwrap_or, sym, subst, ap, ◌∙◌, arith}
+use Rattle.std.proofs.Common.{◌≡◌, ◌⊎◌, inl, inr, ℕ, List, Option, Some, unwrap_or, sym, ap, ◌∙◌, arith}
 use Rattle.cg_text.specs.Names.{unknown}
 use Rattle.cg_text.specs.Readings.{Reading}
 use Rattle.cg_text.specs.declared.words.Namespace.{Namespace}
 use Rattle.cg_text.specs.declared.words.Namespace.TheVariants.{Object, File, Function}
-use Rattle.profile_records.specs.Marks.{Agrees, Learns, name_tells, names_tell}
+use Rattle.profile_records.specs.Marks.{Agrees, Learns, names_tell}
 use Rattle.profile_records.specs.declared.marks.LentName.{LentName}
 use Rattle.profile_records.specs.declared.marks.LentNames.{LentNames}
 use Rattle.profile_records.specs.declared.marks.Mark.{Mark}

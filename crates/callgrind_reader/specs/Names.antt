@@ -1,5 +1,5 @@
 -- Identifiers, and the names in force. `back` are the lines before, the nearest first.
-use Rattle.std.specs.Prelude.{◌≡◌, ℕ, Bool, true, false, ◌&&◌, List, [], ◌∷◌, ◌==◌, if◌then◌else◌, Result, Ok, Err, Option, Some, None, unwrap_or}
+use Rattle.std.specs.Prelude.{ℕ, Bool, true, false, ◌&&◌, List, [], ◌∷◌, ◌==◌, if◌then◌else◌, Result, Ok, Err, Option, Some, None, unwrap_or}
 use Rattle.std.specs.Str.{bytes_eq}
 use Rattle.cg_text.specs.Readings.{Reading}
 use Rattle.cg_text.specs.Kinds.{Name}

@@ -10,7 +10,7 @@ use Rattle.cg_text.specs.Readings.{reading_of}
 use Rattle.cg_text.specs.declared.faults.Fault.{Fault}
 use Rattle.cg_text.specs.declared.faults.Fault.TheVariants.{BadNumber, NumberTooLarge, UnknownLine}
 use Rattle.cg_text.specs.declared.positions.SubPos.TheVariants.{Abs, Plus, Minus, Same}
-use Rattle.cg_text.specs.declared.words.HeaderKey.TheVariants.{Version, Positions, Events, Event, Summary, Totals, Thread, Other}
+use Rattle.cg_text.specs.declared.words.HeaderKey.TheVariants.{Version, Positions, Events, Event, Summary, Totals, Other}
 use Rattle.cg_text.specs.declared.words.NameWord.TheVariants.{Fn, Cfl, Jfi}
 
 -- ---- lines

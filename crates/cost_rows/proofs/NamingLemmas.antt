@@ -177,5 +177,3 @@ distinct-with (first ∷ names) new h = elim (cases_Bool (bytes_eq new first)) [
 pub distinct-after : {E : Type 0} (r : Result ℕ E) (old new : List (List ℕ)) (name : List ℕ) → are_distinct old ≡ true → GivesNumber name old r new → are_distinct new ≡ true
 distinct-after (Ok n) old new name h gives = ap are_distinct gives.1 ∙ distinct-with old name h
 distinct-after (Err e) old new name h same = ap are_distinct same ∙ h
-
--- ---- the last name goes

@@ -3,7 +3,7 @@ use Rattle.std.proofs.Common.{◌≡◌, ◌∙◌, Bool, true, false, List, [],
 use Rattle.std.specs.List.{AllByRecursion}
 use Rattle.run_stores.specs.declared.states.StoreState.{Ghosts}
 use Rattle.plain_tables.specs.Tables.{Tables}
-use Rattle.run_stores.specs.Calls.{Holds, LeavesJust, Represents}
+use Rattle.run_stores.specs.Calls.{Holds, Represents}
 use Rattle.histories.specs.History.{History, Command, Step, with_step}
 use Rattle.histories.specs.Legal.{IsLegal}
 use Rattle.histories.specs.declared.answers.Answer.{Answer}

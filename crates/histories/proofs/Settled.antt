@@ -9,7 +9,7 @@ use Rattle.plain_tables.specs.Labels.{IsGroupName}
 use Rattle.plain_tables.specs.Tables.{Tables}
 use Rattle.plain_tables.specs.declared.errors.StoreError.{StoreError}
 use Rattle.plain_tables.specs.declared.errors.StoreError.TheVariants as ends
-use Rattle.histories.specs.History.{History, Command, groups, with_step}
+use Rattle.histories.specs.History.{History, Command, groups}
 use Rattle.histories.specs.Legal.{IsFailure, IsInForm, IsUnread, IsLegal, IsHistory, has_group}
 use Rattle.histories.specs.Representation.{TablesRepresent}
 use Rattle.histories.specs.declared.answers.Answer.{Answer}

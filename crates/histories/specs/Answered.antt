@@ -1,5 +1,5 @@
 -- What is answered to a command, and what it leaves.
-use Rattle.std.specs.Prelude.{◌≡◌, ◌⊎◌, Bool, true, false, IsTrue, Some, Result, Ok, Err, IfOk, [], ◌∷◌, ◌++◌}
+use Rattle.std.specs.Prelude.{◌≡◌, ◌⊎◌, Bool, true, false, IsTrue, Some, Result, Ok, Err, IfOk, [], ◌∷◌}
 use Rattle.std.specs.Result.{is_ok}
 use Rattle.run_stores.specs.declared.states.StoreState.{Ghosts}
 use Rattle.run_stores.specs.Calls.{Asked, Changed, KeepsIfShut, Represents, ReadsAs, IsFaithful, IsUsable}

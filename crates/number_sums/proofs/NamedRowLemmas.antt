@@ -6,7 +6,7 @@ use Rattle.cost_rows.specs.declared.rows.ArcRow.{ArcRow}
 use Rattle.cost_rows.specs.declared.rows.CellRow.{CellRow}
 use Rattle.cost_rows.proofs.AboveLemmas.{map-above}
 use Rattle.plain_tables.specs.Tables.{NameRow, StoredCell, StoredCall}
-use Rattle.run_stores.specs.Book.{cell_held, name_of, part_held, CallPart, CellIsNamed, CallIsNamed, IsHeld}
+use Rattle.run_stores.specs.Book.{cell_held, name_of, part_held, CallPart, CellIsNamed}
 use Rattle.run_stores.specs.Book as book
 use Rattle.run_stores.specs.Names.{named_call}
 use Rattle.run_stores.specs.Walks.{CellsFoldTo, PartNumbers, cell_numbers, part_numbers, part_of, parts_of}

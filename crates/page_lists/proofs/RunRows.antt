@@ -1,5 +1,5 @@
 -- The rows of a run, in a table whose rows stand in the order of the runs.
-use Rattle.std.proofs.Common.{◌≡◌, ◌≤◌, ◌<◌, ℕ, ℤ, pos, ◌+ℤ◌, false, List, [], ◌∷◌, ◌++◌, map, filter, drop, Some, refl, sym, ap, ap₂, subst, ◌∙◌, inl, inr, arith, append_assoc, is_lt}
+use Rattle.std.proofs.Common.{◌≡◌, ◌≤◌, ◌<◌, ℕ, ℤ, pos, ◌+ℤ◌, false, List, [], ◌∷◌, ◌++◌, map, filter, drop, Some, refl, sym, ap, subst, ◌∙◌, inl, inr, arith, append_assoc, is_lt}
 use Rattle.std.specs.List.{AllByRecursion}
 use Rattle.std.proofs.lemmas.Bool.{cases_Bool}
 use Rattle.std.proofs.lemmas.Bool.Decides.{nat_tests}
@@ -30,15 +30,6 @@ all_on P Q on (x ∷ xs) all = (on x all.0, all_on P Q on xs all.1)
 ascends_behind : {X : Type 0} (R : X → X → Type 0) (xs ys : List X) → IsAscending R (xs ++ ys) → IsAscending R ys
 ascends_behind R [] ys order = order
 ascends_behind R (x ∷ xs) ys order = ascends_behind R xs ys order.1
-
-pub map_injective : {X Y : Type 0} (f : X → Y) → ((a b : X) → f a ≡ f b → a ≡ b) → (xs ys : List X) → map f xs ≡ map f ys → xs ≡ ys
-map_injective f one [] [] is = refl
-map_injective f one [] (y ∷ ys) is = absurd (cc)
-map_injective f one (x ∷ xs) [] is = absurd (cc)
-map_injective f one (x ∷ xs) (y ∷ ys) is =
-    let first : f x ≡ f y = cc in
-    let later : map f xs ≡ map f ys = cc in
-    ap₂ ◌∷◌ (one x y first) (map_injective f one xs ys later)
 
 -- ---- where they begin
 

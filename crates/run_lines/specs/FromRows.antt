@@ -3,12 +3,10 @@ use Rattle.std.specs.Prelude.{ℕ, List}
 use Rattle.std.specs.Borrow.{Bor}
 use Rattle.cost_rows.specs.declared.places.CellPlace.{CellPlace}
 use Rattle.cost_rows.specs.declared.places.Call.{Call}
-use Rattle.cost_rows.specs.Calls.{Calls}
 use Rattle.cost_rows.specs.declared.rows.CellRow.{CellRow}
 use Rattle.cost_rows.specs.declared.rows.ArcRow.{ArcRow}
 use Rattle.cost_rows.specs.declared.rows.StackRow.{StackRow}
-use Rattle.plain_tables.specs.Tables.{StoredCall, StoredStack}
-use Rattle.run_stores.specs.Files.{call_rows_at}
+use Rattle.plain_tables.specs.Tables.{StoredStack}
 
 abbrev pub place_of_cell : CellRow ℕ → CellPlace
 place_of_cell r = record { place = record { object = r.object; file = r.file; function = r.function; line = r.line }; thread = r.thread }
@@ -21,15 +19,5 @@ call_of_call r = record {
   function = r.called_function;
 }
 
-abbrev pub calls_of_call : ArcRow ℕ (Bor (List ℕ)) → Calls
-calls_of_call r = record { count = r.count; costs = r.costs.now }
-
 abbrev pub line_of_stack : ℕ → StackRow (Bor (List ℕ)) → StoredStack
 line_of_stack run r = record { run = run; frames = r.stack.now; count = r.count }
-
--- ---- the lines of a row of calls
-
-module _ (run : ℕ) (numbers : List ℕ) (row : ArcRow ℕ (Bor (List ℕ))) where
-  -- of all parts
-  abbrev pub row_lines : List StoredCall
-  row_lines = call_rows_at run numbers (call_of_call row) (calls_of_call row)

@@ -1,18 +1,16 @@
 -- The calls of a function over runs are those of the files of a selection, and so is whether it is known.
-use Rattle.std.proofs.Common.{◌≡◌, ℕ, zero, suc, ◌+◌, ◌<◌, Bool, true, false, not, ◌&&◌, ◌||◌, ◌==◌, nat_lt, if◌then◌else◌, List, [], ◌∷◌, map, fold, slice_index, Option, Some, None, Result, Ok, Err, refl, sym, ap, ap₂, subst, ◌∙◌, arith}
+use Rattle.std.proofs.Common.{◌≡◌, ℕ, zero, suc, ◌+◌, ◌<◌, Bool, true, false, not, ◌&&◌, ◌||◌, nat_lt, if◌then◌else◌, List, [], ◌∷◌, map, fold, Option, Some, None, Result, Ok, Err, refl, sym, ap, ap₂, subst, ◌∙◌, arith}
 use Rattle.std.proofs.lemmas.Bool.{and_from, and_parts, lt-ltb, ltb-true, or_left, or_right}
 use Rattle.std.proofs.Math.Bool.{or-false, or_assoc}
 use Rattle.std.specs.Prelude.{unwrap_or}
 use Rattle.std.specs.List.{list_any, AllByRecursion}
 use Rattle.std.proofs.lemmas.Grind.{fold-append}
 use Rattle.plain_tables.specs.Lists.{Has}
-use Rattle.cost_rows.specs.Keys.{place_of_row}
 use Rattle.cost_rows.specs.StackSums.{frames_sum}
-use Rattle.cost_rows.specs.Sums.{Spot, callee_spot, caller_spot, costs_at, has_call, spot_of}
-use Rattle.cost_rows.specs.WalkSums.{has_calls, rows_cost, stacks_count}
-use Rattle.cost_rows.specs.Walks.{HaveCosts, HaveCounts}
+use Rattle.cost_rows.specs.Sums.{Spot, callee_spot, caller_spot, costs_at, has_call}
+use Rattle.cost_rows.specs.WalkSums.{has_calls, stacks_count}
+use Rattle.cost_rows.specs.Walks.{HaveCounts}
 use Rattle.cost_rows.specs.declared.rows.ArcRow.{ArcRow}
-use Rattle.cost_rows.specs.declared.rows.CellRow.{CellRow}
 use Rattle.cost_rows.specs.declared.rows.StackRow.{StackRow}
 use Rattle.cost_rows.proofs.KnownLemmas.{cells_know, same_tests}
 use Rattle.report_texts.specs.Calls.{Calls, CallsRepresentEach, EventEdges, all_edges, all_calls, call_report_of, call_report_text, calls_by, weighted_calls, with_calls}

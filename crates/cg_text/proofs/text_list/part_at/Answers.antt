@@ -1,5 +1,5 @@
-use Rattle.std.proofs.Common.{◌≡◌, refl}
-use Rattle.cg_text.proofs.TextsLemmas.{begins_low, ends_low, stands_at}
+use Rattle.std.proofs.Common.{refl}
+use Rattle.cg_text.proofs.TextsLemmas.{stands_at}
 use Rattle.cg_text.proofs.text_list.part_at.Goals as goal
 
 pub slice_bounds-result-count : goal.slice_bounds-result-count

@@ -1,7 +1,7 @@
 use Rattle.std.proofs.Common.{rules, ◌≡◌, ◌<◌, false, ◌∷◌, length, take, get_or, Err, sym, ◌∙◌, subst}
 use Rattle.cg_formulas.specs.Formulas.{is_defined}
 use Rattle.cg_formulas.specs.Definitions.{plain_definition, plain_back}
-use Rattle.cg_formulas.specs.Flats.{FlatIs, Flattens, Defines}
+use Rattle.cg_formulas.specs.Flats.{Flattens, Defines}
 use Rattle.cg_formulas.specs.declared.definitions.Definition as kept
 use Rattle.cg_formulas.proofs.FlattenLemmas.{plain_back-more, fresh-at, flat-err}
 use Rattle.cg_formulas.proofs.formulas.Formulas.flatten.Goals as goal

@@ -1,5 +1,4 @@
-use Rattle.std.proofs.Common.{◌≡◌, length, ap, arith}
-use Rattle.cg_text.specs.Texts.{texts_from}
+use Rattle.std.proofs.Common.{length, ap, arith}
 use Rattle.cg_text.proofs.TextsLemmas.{count_of}
 use Rattle.cg_text.proofs.text_list.TextList.len.Goals as goal
 

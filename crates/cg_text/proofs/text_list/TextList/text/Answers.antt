@@ -1,4 +1,4 @@
-use Rattle.std.proofs.Common.{◌≡◌, ◌<◌, length, ap, sym, arith}
+use Rattle.std.proofs.Common.{length, ap, arith}
 use Rattle.cg_text.proofs.TextsLemmas.{count_of}
 use Rattle.cg_text.proofs.text_list.TextList.text.Goals as goal
 

@@ -1,4 +1,4 @@
-use Rattle.std.proofs.Common.{◌≡◌, take, ap, ◌∙◌}
+use Rattle.std.proofs.Common.{take, ap, ◌∙◌}
 use Rattle.cg_text.specs.Texts.{last_end}
 use Rattle.cg_text.proofs.TextsLemmas.{cut_to}
 use Rattle.cg_text.proofs.text_list.TextList.truncate.Goals as goal
