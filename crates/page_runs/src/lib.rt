@@ -1,7 +1,7 @@
 //! A store of runs that is read straight from the pages of its file: no SQL, and no pass over the file before.
 #![tactic(auto)]
 
-// The cells, the calls and the stacks of a run, handed on (specs/Shown.antt).
+// What takes the cells, the calls and the stacks of a run from its rows.
 mod handed;
 // Where the rows of runs began when they were last walked.
 mod hints;

@@ -2,20 +2,16 @@
 ghost use Rattle.std.specs.Prelude.{◌≡◌, ◌⊎◌, Err, IfOk};
 ghost use Rattle.plain_tables.specs.Labels.{IsLabel};
 ghost use Rattle.plain_tables.specs.declared.errors.StoreError.TheVariants.{Memory};
-ghost use Rattle.run_stores.specs.Calls.{IsFaithful, Tells};
 ghost use Rattle.histories.specs.Formats.{today};
-ghost use Rattle.histories.specs.History.{Annotate, Ask, Import};
+ghost use Rattle.histories.specs.History.{Annotate, Import};
 ghost use Rattle.histories.specs.declared.answers.Answer.{Answer};
 ghost use Rattle.requests.specs.Plain.{plain_query, plain_selection};
-ghost use Rattle.requests.specs.declared.queries.Query.TheVariants.{Csv};
-ghost use Rattle.histories.specs.Answered.{Answers, AnswersAsked};
-ghost use Rattle.histories.specs.FromTables.{OrFailed};
-ghost use Rattle.warehouse.specs.Answered.{IsGivenFor, IsShort, WasAnsweredOver};
+ghost use Rattle.histories.specs.Answered.{AnswersAsked};
+ghost use Rattle.warehouse.specs.Answered.{IsShort, WasAnsweredOver};
 ghost use Rattle.warehouse.specs.FromTables.{AnswersIn, WasAnnotated, WasImported};
 
 use crate::refusals::unread_answer;
 use byte_io::{Source, read_to_end};
-use cost_exports::CellSums;
 use file_reading::parse_file;
 use histories::{Answer, Limits, Refusal, answer_of};
 use profile_records::Kind;
@@ -25,7 +21,7 @@ use run_stores::{RunStore, StoreError};
 use std::alloc::Global;
 use store_calls::{calls_answer, inclusive_answer};
 use store_commands::{groups_answer, import_parsed, label_of, runs_answer};
-use store_exports::{annotate_answer, csv_answer, csv_sums, folded_answer};
+use store_exports::{annotate_answer, csv_answer, folded_answer};
 use store_reports::{by_answer, subtract_answer, verify_answer};
 
 /// How many bytes a source that is annotated may have.
@@ -181,23 +177,5 @@ pub(crate) fn annotate_in<S: RunStore, R: Source>(
             answer_of(keep_short(answered, most))
         }
         Err(unread) => unread_answer(unread),
-    }
-}
-
-/// Sums up what places cost. Their text is the answer, or that there is no memory for it.
-pub(crate) fn csv_in<S: RunStore>(
-    store: &mut S,
-    alloc: Global,
-    selection: &Selection<&[u8]>,
-) -> Result<CellSums, Answer>
-    ensures answered { (answer : Answer) → IsGivenFor answer result → (limits : _) → IsFaithful S.StoreState store.new
-        → Answers S.StoreState limits (Ask (Csv (plain_selection selection.now))) answer store.old store.new }
-    ensures found { (answer : Answer) → IsGivenFor answer result
-        → Tells S.StoreState store.old store.new (λ t. OrFailed (AnswersIn (Csv (plain_selection selection.now)) t) answer) }
-{
-    match csv_sums(store, alloc, selection) {
-        Ok(Ok(sums)) => Ok(sums),
-        Ok(Err(refusal)) => Err(Answer::Refused(refusal)),
-        Err(failure) => Err(answer_of(Err(failure))),
     }
 }

@@ -12,7 +12,7 @@ ghost use Rattle.histories.specs.FromTables.{OrFailed};
 ghost use Rattle.warehouse.specs.Answered.{IsGivenFor, IsShort, IsShortFor, ReadsNone, WasAnswered, WasAnsweredOver, WasRun};
 ghost use Rattle.warehouse.specs.FromTables.{AnswersIn, IsFoundOf, IsFoundWithSource, IsFoundOver, WasImported};
 
-use crate::answering::{annotate_in, answer, csv_in, import_in, keep_short};
+use crate::answering::{annotate_in, answer, import_in, keep_short};
 use crate::warehouse::Warehouse;
 use byte_io::Source;
 use cost_exports::CellSums;
@@ -23,6 +23,7 @@ use run_stores::RunStore;
 use std::alloc::{AllocError, Global};
 use std::collections::VecDeque;
 use store_commands::{GroupChange, change_in, remove_in};
+use store_exports::csv_sums;
 
 impl<S: RunStore> Warehouse<S> {
     /// Imports the file that a source gives, a piece at a time. The source is read to its end even
@@ -43,7 +44,7 @@ impl<S: RunStore> Warehouse<S> {
         import_in(&mut self.store, alloc, self.limits, kind, label, source)
     }
 
-    /// Answers a question.
+    /// Answers a question. A text that is longer than it may be is refused as one that there is no memory for.
     pub fn ask(&mut self, alloc: Global, query: &Query<&[u8]>) -> Answer
         ensures limits { self.new.limits ≡ self.old.limits }
         ensures short { IsShort self.old.most result }
@@ -65,7 +66,11 @@ impl<S: RunStore> Warehouse<S> {
         ensures found { (answer : Answer) → IsGivenFor answer result
             → Tells S.StoreState self.old.store self.new.store (λ t. OrFailed (AnswersIn (Csv (plain_selection selection.now)) t) answer) }
     {
-        csv_in(&mut self.store, alloc, selection)
+        match csv_sums(&mut self.store, alloc, selection) {
+            Ok(Ok(sums)) => Ok(sums),
+            Ok(Err(refusal)) => Err(Answer::Refused(refusal)),
+            Err(failure) => Err(answer_of(Err(failure))),
+        }
     }
 
     /// Does what a command says that reads no source, and answers it.

@@ -1,7 +1,7 @@
 //! The warehouse: commands over a store of runs, their answers, and the line that is printed of each.
 #![tactic(auto)]
 
-// Commands over a store, each with its answer.
+// What is asked and imported over a store, each with its answer.
 mod answering;
 // Commands, one by one and in lists.
 mod apply;
