@@ -2,7 +2,7 @@
 use Rattle.std.proofs.Common.{inl, inr, ◌≡◌, ℕ, ◌+◌, ◌≤◌, Bool, true, List, [], ◌∷◌, ◌++◌, Some, refl, sym, ap, ap₂, ◌∙◌, arith}
 use Rattle.std.specs.declared.cmp.Ordering.{Ordering}
 use Rattle.std.specs.declared.cmp.Ordering.TheVariants.{Less, Equal, Greater}
-use Rattle.std.specs.Cmp.{IsTotalOrder, nat_cmp_total}
+use Rattle.std.specs.Cmp.{IsTotalOrder}
 use Rattle.std.specs.Cmp.Lexicographic.{nat_list_cmp_total}
 use Rattle.std.specs.List.{AllByRecursion}
 use Rattle.std.specs.List.Sorted.{IsStrictlySortedBy}
@@ -48,9 +48,6 @@ names-apart a b h =
     ap (λ n. make n a.file a.function) (bytes_apart a.object b.object first.0)
     ∙ ap (λ n. make b.object n a.function) (bytes_apart a.file b.file second.0)
     ∙ ap (make b.object b.file) (bytes_apart a.function b.function second.1)
-
-pub line-total : IsTotalOrder line_cmp
-line-total = then_total (on_total (λ (l : LineEvent). l.line) nat_cmp_total) (on_total (λ (l : LineEvent). l.event) nat_list_cmp_total)
 
 -- names first, then lines and events; none of the places tells a thread
 grouped : (a b d e f : Ordering) → ordering_then (ordering_then a (ordering_then b (ordering_then d (ordering_then e Equal)))) f ≡ ordering_then (ordering_then a (ordering_then b d)) (ordering_then e f)
