@@ -34,7 +34,7 @@ mod pair_sums;
 mod pairs;
 // A part of a total in percent (report_texts/specs/Percents.antt).
 mod percents;
-// Places by names that are lent (specs/Rows.antt).
+// The places of rows and of functions, by names that are lent.
 mod places;
 // Rows in the order of a report (report_texts/specs/Ranking.antt).
 mod ranks;

@@ -1,4 +1,4 @@
-// Places by names that are lent.
+// The places of rows and of functions, by names that are lent.
 ghost use Rattle.std.specs.Prelude.{◌≡◌};
 ghost use Rattle.cost_rows.specs.Keys.{lent_place, place_of_row};
 ghost use Rattle.cost_rows.specs.Plain.{plain_cell};
