@@ -1,8 +1,9 @@
 // Imports, removals and groups, and what is refused.
 use crate::bytes::Endless;
 use crate::files::{ADDRESSES, CALLS, GREATEST, ONE, TOTALS};
-use crate::steps::{Asked, Question, Step, Visit, print, print_within, visit_empty};
-use prof_library::{Answer, Kind, Limits, Refusal, RunStore, Warehouse, status_of};
+use crate::steps::{Asked, Question, Step, empty_store, print, print_within};
+use prof_library::{Answer, Kind, Limits, PageRuns, Refusal, RunStore, Warehouse, status_of};
+use sqlite_disk::Disk;
 use std::alloc::Global;
 use std::test::Fail;
 
@@ -155,18 +156,23 @@ pub fn statuses_of_answers() -> Result<(), Fail> {
     Ok(())
 }
 
-/// The import of a file that has no end.
-#[derive(Drop)]
-struct EndlessImport;
-
-impl Visit for EndlessImport {
-    fn visit<S: RunStore>(self, alloc: Global, warehouse: &mut Warehouse<S>) -> Result<(), Fail> {
-        let answer = warehouse.import(alloc, Kind::Callgrind, b"a.out", &mut Endless);
-        if !matches!(answer, Answer::Refused(Refusal::TooLong)) {
-            Err("an endless file is not too long")?;
-        }
-        Ok(())
+/// A file that has no end is too long.
+fn endless_over<S: RunStore + Drop>(alloc: Global, store: S, limits: Limits) -> Result<(), Fail> {
+    let mut warehouse = Warehouse::new(store, limits);
+    let answer = warehouse.import(alloc, Kind::Callgrind, b"a.out", &mut Endless);
+    if !matches!(answer, Answer::Refused(Refusal::TooLong)) {
+        Err("an endless file is not too long")?;
     }
+    Ok(())
+}
+
+/// The same over the store in files.
+fn endless_in<D: Disk + Drop>(
+    alloc: Global,
+    store: PageRuns<D>,
+    limits: Limits,
+) -> Result<(), Fail> {
+    endless_over(alloc, store, limits)
 }
 
 pub fn a_file_without_an_end(alloc: Global) -> Result<(), Fail> {
@@ -177,5 +183,6 @@ pub fn a_file_without_an_end(alloc: Global) -> Result<(), Fail> {
         groups: standard.groups,
         numbers: standard.numbers,
     };
-    visit_empty(alloc, limits, EndlessImport)
+    let store = empty_store(alloc)?;
+    endless_in(alloc, store, limits)
 }

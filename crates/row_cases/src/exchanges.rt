@@ -1,10 +1,11 @@
 // Requests of a client in memory.
 ghost use Rattle.std.specs.Prelude.{◌≤◌, length};
 
-use crate::steps::{Visit, visit_empty};
+use crate::steps::empty_store;
 use prof_library::{
-    Exchange, Limits, Room, RunStore, Stream, StreamFault, Warehouse, answer, routes,
+    Exchange, Limits, PageRuns, Room, RunStore, Stream, StreamFault, Warehouse, answer, routes,
 };
+use sqlite_disk::Disk;
 use std::alloc::{AllocError, Global};
 use std::test::Fail;
 
@@ -75,46 +76,48 @@ fn exchange<S: RunStore>(
 const IMPORT: &[u8] =
     b"POST /runs/folded?label=t HTTP/1.1\r\nHost: a\r\nContent-Length: 6\r\n\r\na;b 2\n";
 
-/// Requests, one after another.
-#[derive(Drop)]
-struct Exchanges;
-
-impl Visit for Exchanges {
-    fn visit<S: RunStore>(self, alloc: Global, warehouse: &mut Warehouse<S>) -> Result<(), Fail> {
-        let mut room = Room::new();
-        for (request, status, wanted) in [
-            (
-                IMPORT,
-                201,
-                "HTTP/1.1 201 Created\r\nContent-Type: text/plain\r\nContent-Length: 6\r\nConnection: close\r\n\r\nrun 1\n",
-            ),
-            (
-                IMPORT,
-                200,
-                "HTTP/1.1 200 OK\r\nContent-Type: text/plain\r\nContent-Length: 7\r\nConnection: close\r\n\r\nheld 1\n",
-            ),
-            (
-                b"GET /reports/function?event=samples HTTP/1.1\r\nHost: a\r\n\r\n",
-                200,
-                "HTTP/1.1 200 OK\r\nContent-Type: text/plain\r\nContent-Length: 67\r\nConnection: close\r\n\r\nby function samples\n2 100.00% total\n2 100.00% ???:b\n0 0.00% (rest)\n",
-            ),
-            (
-                b"POST /runs/folded?label=t HTTP/1.1\r\nHost: a\r\n\r\n",
-                411,
-                "HTTP/1.1 411 Length Required\r\nContent-Type: text/plain\r\nContent-Length: 16\r\nConnection: close\r\n\r\nlength required\n",
-            ),
-            (
-                b"GET /nothing HTTP/1.1\r\nHost: a\r\n\r\n",
-                404,
-                "HTTP/1.1 404 Not Found\r\nContent-Type: text/plain\r\nContent-Length: 10\r\nConnection: close\r\n\r\nnot found\n",
-            ),
-        ] {
-            exchange(alloc, &mut room, warehouse, request, status, wanted)?;
-        }
-        Ok(())
+/// Requests to a store, one after another.
+fn exchanges_over<S: RunStore + Drop>(alloc: Global, store: S) -> Result<(), Fail> {
+    let mut warehouse = Warehouse::new(store, Limits::standard());
+    let mut room = Room::new();
+    for (request, status, wanted) in [
+        (
+            IMPORT,
+            201,
+            "HTTP/1.1 201 Created\r\nContent-Type: text/plain\r\nContent-Length: 6\r\nConnection: close\r\n\r\nrun 1\n",
+        ),
+        (
+            IMPORT,
+            200,
+            "HTTP/1.1 200 OK\r\nContent-Type: text/plain\r\nContent-Length: 7\r\nConnection: close\r\n\r\nheld 1\n",
+        ),
+        (
+            b"GET /reports/function?event=samples HTTP/1.1\r\nHost: a\r\n\r\n",
+            200,
+            "HTTP/1.1 200 OK\r\nContent-Type: text/plain\r\nContent-Length: 67\r\nConnection: close\r\n\r\nby function samples\n2 100.00% total\n2 100.00% ???:b\n0 0.00% (rest)\n",
+        ),
+        (
+            b"POST /runs/folded?label=t HTTP/1.1\r\nHost: a\r\n\r\n",
+            411,
+            "HTTP/1.1 411 Length Required\r\nContent-Type: text/plain\r\nContent-Length: 16\r\nConnection: close\r\n\r\nlength required\n",
+        ),
+        (
+            b"GET /nothing HTTP/1.1\r\nHost: a\r\n\r\n",
+            404,
+            "HTTP/1.1 404 Not Found\r\nContent-Type: text/plain\r\nContent-Length: 10\r\nConnection: close\r\n\r\nnot found\n",
+        ),
+    ] {
+        exchange(alloc, &mut room, &mut warehouse, request, status, wanted)?;
     }
+    Ok(())
+}
+
+/// The same over the store in files.
+fn exchanges_in<D: Disk + Drop>(alloc: Global, store: PageRuns<D>) -> Result<(), Fail> {
+    exchanges_over(alloc, store)
 }
 
 pub fn a_stack_over_http(alloc: Global) -> Result<(), Fail> {
-    visit_empty(alloc, Limits::standard(), Exchanges)
+    let store = empty_store(alloc)?;
+    exchanges_in(alloc, store)
 }

@@ -4,7 +4,7 @@ use prof_library::{
     Command, Cut, Key, Kind, Limits, PageRuns, Query, RunStore, Selection, Store, Warehouse,
     line_of,
 };
-use sqlite::{Alter, Connection, Options};
+use sqlite::{Alter, Connection, FileStore, Options};
 use sqlite_disk::{Disk, Files, Memory};
 use std::alloc::Global;
 use std::test::Fail;
@@ -146,13 +146,6 @@ fn command_of(asked: Asked) -> Command<Bytes, &'static [u8]> {
     }
 }
 
-/// What is done over a warehouse. It is written over any store: what is called at the type of one takes a third of a minute to
-/// prove at each call, so that is done in one place.
-pub(crate) trait Visit {
-    /// Does it, and fails where something else is found than is wanted.
-    fn visit<S: RunStore>(self, alloc: Global, warehouse: &mut Warehouse<S>) -> Result<(), Fail>;
-}
-
 /// Makes a store in an empty database. (It is written over any: what is called at the type of one in files takes long to
 /// prove.)
 fn make_in<S: Alter + Drop>(conn: Connection<S>) -> (bool, Connection<S>) {
@@ -162,19 +155,36 @@ fn make_in<S: Alter + Drop>(conn: Connection<S>) -> (bool, Connection<S>) {
     }
 }
 
-/// The files of an empty database, with a store in them.
-fn made_in<D: Disk + Drop>(alloc: Global, files: Files<D>) -> Result<Files<D>, &'static str> {
+/// The database in files.
+fn database_in<D: Disk + Drop>(
+    alloc: Global,
+    files: Files<D>,
+) -> Result<Connection<FileStore<D>>, &'static str> {
     if !files.may_be_used() {
         return Err("no files");
     }
-    let Ok(conn) = Connection::open_files(alloc, files, Options::new(7)) else {
-        return Err("no database");
-    };
-    let (is_made, conn) = make_in(conn);
-    match conn.close_files() {
-        Ok(files) if is_made => Ok(files),
-        _ => Err("no store"),
+    match Connection::open_files(alloc, files, Options::new(7)) {
+        Ok(conn) => Ok(conn),
+        Err(_) => Err("no database"),
     }
+}
+
+/// The files of a database that is closed.
+fn closed<D: Disk + Drop>(conn: Connection<FileStore<D>>) -> Result<Files<D>, &'static str> {
+    match conn.close_files() {
+        Ok(files) => Ok(files),
+        Err((_, store)) => {
+            drop(store.close());
+            Err("the log is not copied")
+        }
+    }
+}
+
+/// Files with a store that is made in them.
+fn made_in<D: Disk + Drop>(alloc: Global, files: Files<D>) -> Result<Files<D>, &'static str> {
+    let (is_made, conn) = make_in(database_in(alloc, files)?);
+    let files = closed(conn)?;
+    if is_made { Ok(files) } else { Err("no store") }
 }
 
 /// The store in files, by its pages.
@@ -188,19 +198,14 @@ fn opened_in<D: Disk + Drop>(alloc: Global, files: Files<D>) -> Result<PageRuns<
     }
 }
 
-/// Visits a warehouse over an empty store in memory.
-pub(crate) fn visit_empty<V: Visit + Drop>(
-    alloc: Global,
-    limits: Limits,
-    visit: V,
-) -> Result<(), Fail> {
+/// An empty store in memory. (What is done over one is written over any, and called over files of any kind: the checker gives up
+/// where a store over files of one kind is handed on.)
+pub(crate) fn empty_store(alloc: Global) -> Result<PageRuns<Memory>, &'static str> {
     let files = Files {
         log: Memory::new(alloc),
         db: Memory::new(alloc),
     };
-    let store = opened_in(alloc, made_in(alloc, files)?)?;
-    let mut warehouse = Warehouse::new(store, limits);
-    visit.visit(alloc, &mut warehouse)
+    opened_in(alloc, made_in(alloc, files)?)
 }
 
 /// The file that a command reads, or none.
@@ -211,25 +216,34 @@ fn source_of(command: &Command<Bytes, &'static [u8]>) -> Bytes {
     }
 }
 
-/// Commands, one after another: what one should have printed and did not is the failure.
-#[derive(Drop)]
-struct Steps<'s> {
-    steps: &'s [Step],
+/// Commands over a store, one after another: what one should have printed and did not is the failure.
+fn print_over<S: RunStore + Drop>(
+    alloc: Global,
+    store: S,
+    limits: Limits,
+    steps: &[Step],
+) -> Result<(), Fail> {
+    let mut warehouse = Warehouse::new(store, limits);
+    for (asked, wanted) in steps {
+        let command = command_of(*asked);
+        let mut source = source_of(&command);
+        let answer = warehouse.perform(alloc, &command, &mut source);
+        let line = line_of(alloc, &answer)?;
+        if line.as_slice() != wanted.as_bytes() {
+            Err(*wanted)?;
+        }
+    }
+    Ok(())
 }
 
-impl Visit for Steps<'_> {
-    fn visit<S: RunStore>(self, alloc: Global, warehouse: &mut Warehouse<S>) -> Result<(), Fail> {
-        for (asked, wanted) in self.steps {
-            let command = command_of(*asked);
-            let mut source = source_of(&command);
-            let answer = warehouse.perform(alloc, &command, &mut source);
-            let line = line_of(alloc, &answer)?;
-            if line.as_slice() != wanted.as_bytes() {
-                Err(*wanted)?;
-            }
-        }
-        Ok(())
-    }
+/// The same over the store in files.
+fn print_in<D: Disk + Drop>(
+    alloc: Global,
+    store: PageRuns<D>,
+    limits: Limits,
+    steps: &[Step],
+) -> Result<(), Fail> {
+    print_over(alloc, store, limits, steps)
 }
 
 /// Commands over an empty store, under the limits of the program.
@@ -239,5 +253,6 @@ pub(crate) fn print(alloc: Global, steps: &[Step]) -> Result<(), Fail> {
 
 /// Commands over an empty store, under these limits.
 pub(crate) fn print_within(alloc: Global, limits: Limits, steps: &[Step]) -> Result<(), Fail> {
-    visit_empty(alloc, limits, Steps { steps })
+    let store = empty_store(alloc)?;
+    print_in(alloc, store, limits, steps)
 }

@@ -1,8 +1,10 @@
 // Imports into a warehouse of small limits.
 use crate::given::Given;
 use crate::holding::holds;
-use crate::stores::{StoreJob, done_over_empty};
+use crate::stores::new_pages;
+use page_runs::PageRuns;
 use run_stores::RunStore;
+use sqlite_disk::Disk;
 use std::alloc::Global;
 use std::test::Fail;
 use warehouse::{Answer, Kind, Limits, Refusal, Warehouse};
@@ -30,21 +32,33 @@ fn small(bytes: u16) -> Limits {
     }
 }
 
-/// A source is imported under limits: what is answered.
-#[derive(Drop)]
-struct Imported {
+/// What the import of a source over a store is answered, under limits. (It is written over any: what is called at the type of
+/// one takes a third of a minute to prove at each call.)
+fn imported_over<S: RunStore + Drop>(
+    alloc: Global,
+    store: S,
     limits: Limits,
     source: Given,
+) -> &'static str {
+    let mut source = source;
+    let mut house = Warehouse::new(store, limits);
+    word(&house.import(alloc, Kind::Callgrind, b"a", &mut source))
 }
 
-impl StoreJob for Imported {
-    type Found = &'static str;
+/// The same over the store in files. (The checker gives up where a store over files of one kind is handed on.)
+fn imported_in<D: Disk + Drop>(
+    alloc: Global,
+    store: PageRuns<D>,
+    limits: Limits,
+    source: Given,
+) -> &'static str {
+    imported_over(alloc, store, limits, source)
+}
 
-    fn over<S: RunStore + Drop>(self, alloc: Global, store: S) -> &'static str {
-        let mut source = self.source;
-        let mut house = Warehouse::new(store, self.limits);
-        word(&house.import(alloc, Kind::Callgrind, b"a", &mut source))
-    }
+/// The same over an empty store.
+fn imported(alloc: Global, limits: Limits, source: Given) -> Result<&'static str, &'static str> {
+    let store = new_pages(alloc)?;
+    Ok(imported_in(alloc, store, limits, source))
 }
 
 pub fn a_file_has_at_most_so_many_bytes(alloc: Global) -> Result<(), Fail> {
@@ -63,7 +77,7 @@ pub fn a_file_has_at_most_so_many_bytes(alloc: Global) -> Result<(), Fail> {
             sound,
         };
         let limits = small(bytes);
-        let answer = done_over_empty(alloc, Imported { limits, source })?;
+        let answer = imported(alloc, limits, source)?;
         holds(answer == wanted, "another answer")?;
     }
     Ok(())

@@ -2,7 +2,7 @@
 use crate::told::told_by;
 use page_runs::PageRuns;
 use prof_store::Store;
-use run_stores::{RunStore, StoreError};
+use run_stores::StoreError;
 use sqlite::{Alter, Connection, FileStore};
 use sqlite_disk::{Disk, Files};
 use sqlite_pager::Options;
@@ -142,25 +142,6 @@ pub(crate) fn new_pages(alloc: Global) -> Result<PageRuns<Stopping>, &'static st
         Ok(store) => Ok(store),
         Err(_) => empty_pages(alloc),
     }
-}
-
-/// What is done over a store. It is written over any: what is called at the type of one takes a third of a minute to prove at
-/// each call, so that is done in one place.
-pub(crate) trait StoreJob {
-    /// What it finds.
-    type Found: Drop;
-
-    /// Does it.
-    fn over<S: RunStore + Drop>(self, alloc: Global, store: S) -> Self::Found;
-}
-
-/// Does a job over an empty store.
-pub(crate) fn done_over_empty<J: StoreJob + Drop>(
-    alloc: Global,
-    job: J,
-) -> Result<J::Found, &'static str> {
-    let store = new_pages(alloc)?;
-    Ok(job.over(alloc, store))
 }
 
 /// All that a store in pages tells.
