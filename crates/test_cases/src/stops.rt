@@ -2,9 +2,7 @@
 // log, of the database file, or of both. Opened again, they tell what they told before the step or with it, and with it where
 // it was answered as done.
 use crate::changes::{CHANGES, Change, change_pages};
-use crate::stores::{
-    DatabaseJob, Making, Opening, done_in, pages_in, told_by_pages, told_by_sql,
-};
+use crate::stores::{DatabaseJob, Making, Opening, done_in, pages_in, told_by_pages, told_by_sql};
 use run_stores::Kind;
 use sqlite::{Alter, Connection};
 use sqlite_disk::{Disk, Files};

@@ -154,13 +154,22 @@ pub(crate) trait StoreJob {
     fn over<S: RunStore + Drop>(self, alloc: Global, store: S) -> Self::Found;
 }
 
+/// Does a job over a store on any disk: at the type of one the types of its calls are too long to compare.
+fn done_over<D: Disk + Drop, J: StoreJob + Drop>(
+    alloc: Global,
+    store: PageRuns<D>,
+    job: J,
+) -> J::Found {
+    job.over(alloc, store)
+}
+
 /// Does a job over an empty store.
 pub(crate) fn done_over_empty<J: StoreJob + Drop>(
     alloc: Global,
     job: J,
 ) -> Result<J::Found, &'static str> {
     let store = new_pages(alloc)?;
-    Ok(job.over(alloc, store))
+    Ok(done_over(alloc, store, job))
 }
 
 /// All that a store in pages tells.
