@@ -4,3 +4,4 @@ pub mod HeadLemmas
 pub mod Steps
 mod StreamExamples
 pub mod TextsLemmas
+pub mod PhraseLemmas
