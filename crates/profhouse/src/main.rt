@@ -53,7 +53,7 @@ impl<'a> Outputs for StandardOutput<'a> {
     }
 }
 
-// A store over files of any type is faster to prove than one over those of a host: so it is three functions.
+// A store over files of any type is faster to prove than one over those of a host: so it is two functions.
 
 /// Does what the words that the program was started with say, over a store that `P` opens in its pages.
 fn run_in_pages<D: Disk + Drop, P: Opener<PageRuns<D>>, O: Outputs>(
@@ -71,12 +71,7 @@ fn run_over<F: FileOpener, M: StoreMaker<F>, O: Outputs>(
     run_in_pages::<F::File, PathOpener<F, M>, O>(rt, outputs)
 }
 
-/// The same over those of a host.
-fn run<S: Openings, O: Outputs>(rt: &HostRuntime, outputs: &O) -> Result<ExitCode> {
-    run_over::<HostOpener<RunningHost<S>>, SqlMaker, O>(rt, outputs)
-}
-
 fn main(rt: HostRuntime) -> Result<ExitCode> {
     let outputs = StandardOutput { rt: &rt };
-    run::<HostFiles, StandardOutput>(&rt, &outputs)
+    run_over::<HostOpener<RunningHost<HostFiles>>, SqlMaker, StandardOutput>(&rt, &outputs)
 }
