@@ -1,9 +1,8 @@
 // Imports, removals and groups, and what is refused.
 use crate::bytes::Endless;
 use crate::files::{ADDRESSES, CALLS, GREATEST, ONE, TOTALS};
-use crate::steps::{Asked, Question, Step, empty_store, print, print_within};
-use prof_library::{Answer, Kind, Limits, PageRuns, Refusal, RunStore, Warehouse, status_of};
-use sqlite_disk::Disk;
+use crate::steps::{Asked, Question, Step, Visit, print, print_within, visit_empty};
+use prof_library::{Answer, Kind, Limits, Refusal, RunStore, Warehouse, status_of};
 use std::alloc::Global;
 use std::test::Fail;
 
@@ -157,7 +156,14 @@ pub fn statuses_of_answers() -> Result<(), Fail> {
 }
 
 /// A file that has no end is too long.
-fn endless_over<S: RunStore + Drop>(alloc: Global, store: S, limits: Limits) -> Result<(), Fail> {
+pub(crate) fn endless_over<S: RunStore + Drop>(alloc: Global, store: S) -> Result<(), Fail> {
+    let standard = Limits::standard();
+    let limits = Limits {
+        bytes: 15,
+        runs: standard.runs,
+        groups: standard.groups,
+        numbers: standard.numbers,
+    };
     let mut warehouse = Warehouse::new(store, limits);
     let answer = warehouse.import(alloc, Kind::Callgrind, b"a.out", &mut Endless);
     if !matches!(answer, Answer::Refused(Refusal::TooLong)) {
@@ -166,23 +172,6 @@ fn endless_over<S: RunStore + Drop>(alloc: Global, store: S, limits: Limits) -> 
     Ok(())
 }
 
-/// The same over the store in files.
-fn endless_in<D: Disk + Drop>(
-    alloc: Global,
-    store: PageRuns<D>,
-    limits: Limits,
-) -> Result<(), Fail> {
-    endless_over(alloc, store, limits)
-}
-
 pub fn a_file_without_an_end(alloc: Global) -> Result<(), Fail> {
-    let standard = Limits::standard();
-    let limits = Limits {
-        bytes: 15,
-        runs: standard.runs,
-        groups: standard.groups,
-        numbers: standard.numbers,
-    };
-    let store = empty_store(alloc)?;
-    endless_in(alloc, store, limits)
+    visit_empty(alloc, Visit::Endless)
 }

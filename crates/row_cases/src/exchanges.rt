@@ -1,11 +1,10 @@
 // Requests of a client in memory.
 ghost use Rattle.std.specs.Prelude.{◌≤◌, length};
 
-use crate::steps::empty_store;
+use crate::steps::{Visit, visit_empty};
 use prof_library::{
-    Exchange, Limits, PageRuns, Room, RunStore, Stream, StreamFault, Warehouse, answer, routes,
+    Exchange, Limits, Room, RunStore, Stream, StreamFault, Warehouse, answer, routes,
 };
-use sqlite_disk::Disk;
 use std::alloc::{AllocError, Global};
 use std::test::Fail;
 
@@ -77,7 +76,7 @@ const IMPORT: &[u8] =
     b"POST /runs/folded?label=t HTTP/1.1\r\nHost: a\r\nContent-Length: 6\r\n\r\na;b 2\n";
 
 /// Requests to a store, one after another.
-fn exchanges_over<S: RunStore + Drop>(alloc: Global, store: S) -> Result<(), Fail> {
+pub(crate) fn exchanges_over<S: RunStore + Drop>(alloc: Global, store: S) -> Result<(), Fail> {
     let mut warehouse = Warehouse::new(store, Limits::standard());
     let mut room = Room::new();
     for (request, status, wanted) in [
@@ -112,12 +111,6 @@ fn exchanges_over<S: RunStore + Drop>(alloc: Global, store: S) -> Result<(), Fai
     Ok(())
 }
 
-/// The same over the store in files.
-fn exchanges_in<D: Disk + Drop>(alloc: Global, store: PageRuns<D>) -> Result<(), Fail> {
-    exchanges_over(alloc, store)
-}
-
 pub fn a_stack_over_http(alloc: Global) -> Result<(), Fail> {
-    let store = empty_store(alloc)?;
-    exchanges_in(alloc, store)
+    visit_empty(alloc, Visit::Exchanges)
 }

@@ -1,5 +1,7 @@
 // Commands, and what each of them prints.
 use crate::bytes::Bytes;
+use crate::changes::endless_over;
+use crate::exchanges::exchanges_over;
 use prof_library::{
     Command, Cut, Key, Kind, Limits, PageRuns, Query, RunStore, Selection, Store, Warehouse,
     line_of,
@@ -198,9 +200,8 @@ fn opened_in<D: Disk + Drop>(alloc: Global, files: Files<D>) -> Result<PageRuns<
     }
 }
 
-/// An empty store in memory. (What is done over one is written over any, and called over files of any kind: the checker gives up
-/// where a store over files of one kind is handed on.)
-pub(crate) fn empty_store(alloc: Global) -> Result<PageRuns<Memory>, &'static str> {
+/// An empty store in memory.
+fn empty_store(alloc: Global) -> Result<PageRuns<Memory>, &'static str> {
     let files = Files {
         log: Memory::new(alloc),
         db: Memory::new(alloc),
@@ -236,14 +237,40 @@ fn print_over<S: RunStore + Drop>(
     Ok(())
 }
 
-/// The same over the store in files.
-fn print_in<D: Disk + Drop>(
+/// What is done over an empty store.
+#[derive(Drop)]
+pub(crate) enum Visit<'s> {
+    /// Commands under limits, and what each of them prints.
+    Steps(Limits, &'s [Step]),
+    /// The import of a file that has no end.
+    Endless,
+    /// Requests of a client.
+    Exchanges,
+}
+
+/// Does it over a store.
+fn visit_over<S: RunStore + Drop>(alloc: Global, store: S, visit: Visit<'_>) -> Result<(), Fail> {
+    match visit {
+        Visit::Steps(limits, steps) => print_over(alloc, store, limits, steps),
+        Visit::Endless => endless_over(alloc, store),
+        Visit::Exchanges => exchanges_over(alloc, store),
+    }
+}
+
+/// The same over the store in files of any kind: the checker gives up where a store over files of one kind is handed on. (Each
+/// such call takes it half a minute: so there is one.)
+fn visit_in<D: Disk + Drop>(
     alloc: Global,
     store: PageRuns<D>,
-    limits: Limits,
-    steps: &[Step],
+    visit: Visit<'_>,
 ) -> Result<(), Fail> {
-    print_over(alloc, store, limits, steps)
+    visit_over(alloc, store, visit)
+}
+
+/// The same over an empty store in memory.
+pub(crate) fn visit_empty(alloc: Global, visit: Visit<'_>) -> Result<(), Fail> {
+    let store = empty_store(alloc)?;
+    visit_in(alloc, store, visit)
 }
 
 /// Commands over an empty store, under the limits of the program.
@@ -253,6 +280,5 @@ pub(crate) fn print(alloc: Global, steps: &[Step]) -> Result<(), Fail> {
 
 /// Commands over an empty store, under these limits.
 pub(crate) fn print_within(alloc: Global, limits: Limits, steps: &[Step]) -> Result<(), Fail> {
-    let store = empty_store(alloc)?;
-    print_in(alloc, store, limits, steps)
+    visit_empty(alloc, Visit::Steps(limits, steps))
 }
