@@ -41,7 +41,7 @@ fn read_through<S: Source, T: ByteSink>(
     ensures { WasRead S.reads limit source.old source.new result (λ bytes _. Takes T.has_taken takes.old bytes takes.new) }
 {
     let mut left = limit;
-    'reads: for _ in 0..u64::MAX {
+    'reads: loop {
         let Ok(count) = source.read(buffer) else {
             return Err(Unread::Failed);
         };
@@ -54,7 +54,6 @@ fn read_through<S: Source, T: ByteSink>(
         left -= count as u64;
         takes.feed(&buffer[..count])?;
     }
-    Err(Unread::TooLong)
 }
 
 /// Hands on what a source gives to its end, or until that is more than `limit` bytes. Every error of

@@ -60,7 +60,7 @@ pub fn walk<P: Pages, T: RowSink>(
     let mut batch = Batch::new(alloc);
     let mut loads = Loads::of_rows(alloc);
     let mut next = from;
-    'rows: for _ in 0..u64::MAX {
+    'rows: loop {
         if !advance(store, &mut loads, &mut scratch, root, next, &mut batch)? {
             return Ok(());
         }
@@ -79,7 +79,6 @@ pub fn walk<P: Pages, T: RowSink>(
         }
         next = rowid + 1;
     }
-    Err(WalkError::Pages(Error::OutOfMemory))
 }
 
 /// Finds the row with a rowid, and puts the bytes of its record into `payload`. Says whether there is

@@ -1,5 +1,5 @@
-use Rattle.std.proofs.Common.{◌≡◌, ◌+◌, ◌-◌, ◌<◌, ◌≤◌, [], ◌∷◌, ◌++◌, length, take, sym, ap, subst, ◌∙◌, arith, append-nil}
-use Rattle.std.proofs.lemmas.List.{length-append, length-take-le}
+use Rattle.std.proofs.Common.{◌≡◌, ◌+◌, ◌-◌, ◌≤◌, [], ◌∷◌, ◌++◌, length, take, sym, ap, subst, ◌∙◌, arith, append-nil}
+use Rattle.std.proofs.lemmas.List.{length-take-le}
 use Rattle.byte_io.specs.Outcomes.{Gave, Failed, bytes_of}
 use Rattle.byte_io.specs.Takes.{HasRoom, Takes}
 use Rattle.byte_io.specs.Reads.{IsUnreadFor}
@@ -61,17 +61,13 @@ reads-preserved g c =
     let piece = take c.in-Ok.count c.read.new.buf in
     let many : length piece ≡ c.in-Ok.count = length-take-le c.in-Ok.count c.read.new.buf c.in-Ok.ensures.within in
     let fits : length piece ≤ c.reads.left = omega (arith, many, c.if-count-left.false) in
-    let joined = ap length (bytes_on was.outcomes piece) ∙ length-append (bytes_of was.outcomes) piece in
-    let some : 0 < c.in-Ok.count = omega (arith, c.if-count-eq0.false) in
     record {
       outcomes = was.outcomes ++ Gave piece ∷ [];
       came = come_on g.S.Source.reads c.args.source.now c.reads.source c.read.new.self was.outcomes (Gave piece) was.came c.in-Ok.ensures.came;
       unfailed = unfailed_on c.args.limit c.reads.left was.outcomes was.left was.unfailed piece;
       left = ap (λ n. length (bytes_of (was.outcomes ++ Gave piece ∷ [])) + (c.reads.left - n)) (sym many) ∙ left_on c.args.limit c.reads.left was.outcomes was.left was.unfailed piece fits;
-      counted = omega (arith, joined, many, some, was.counted);
       some = omega (arith, c.read.auto.buf, was.some);
       room =
           subst (λ n. HasRoom g.T.ByteSink.has_taken c.feed.new.self (c.reads.left - n)) many (room_on g.T.ByteSink.has_taken c.reads.takes c.feed.new.self c.reads.left piece fits c.in_ok-feed.ensures was.room);
-      few = was.few;
       took = takes_on g.T.ByteSink.has_taken c.args.takes.now c.reads.takes c.feed.new.self was.outcomes piece was.took c.in_ok-feed.ensures;
     }

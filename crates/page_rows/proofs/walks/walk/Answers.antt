@@ -177,9 +177,3 @@ returns-then-rowid-eq9223372036854775807-clause-kept g c = Continues-trans g.P.P
 
 pub returns-then-rowid-eq9223372036854775807-clause-pages : goal.returns-then-rowid-eq9223372036854775807-clause-pages
 returns-then-rowid-eq9223372036854775807-clause-pages g c = c.advance.ensures.pages ∙ c.rows.invariant.2
-
-pub returns-clause-kept : goal.returns-clause-kept
-returns-clause-kept g c = c.rows.invariant.1
-
-pub returns-clause-pages : goal.returns-clause-pages
-returns-clause-pages g c = c.rows.invariant.2

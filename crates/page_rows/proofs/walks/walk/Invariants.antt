@@ -1,4 +1,5 @@
-use Rattle.std.proofs.Common.{◌≡◌, ℤ, ℕ, List, [], map}
+use Rattle.std.proofs.Common.{◌≡◌, ◌^◌, ℤ, pos, ℕ, List, [], map}
+use Rattle.std.specs.Int.{int_gap}
 use Rattle.sqlite_pages.specs.Calls.{IsClean, Continues}
 use Rattle.sqlite_btree.specs.Chain.{Layout}
 use Rattle.sqlite_btree.specs.Cut.{from_cut}
@@ -7,6 +8,10 @@ use Rattle.sqlite_store.specs.Db.{table_row}
 use Rattle.page_rows.specs.Places.{IsAt}
 use Rattle.page_rows.specs.Walks.{IsBehind}
 use Rattle.page_rows.proofs.walks.walk.Given as goal
+
+-- the rowids from the next one on
+abbrev pub decreases-rows : goal.decreases-rows
+decreases-rows g l = int_gap l.next (pos (2 ^ 63))
 
 abbrev pub invariant-rows : goal.invariant-rows
 invariant-rows g l =
