@@ -1,6 +1,6 @@
-// Public calls that the program does not make, what takes lines and refuses one, and imports into a warehouse with small limits.
+// Public calls that the program does not make, and what takes lines and refuses one.
 use std::test::Fail;
-use test_cases::{imports, library, lines};
+use test_cases::{library, lines};
 
 #[test]
 fn public_calls(rt: HostRuntime) -> Result<(), Fail> {
@@ -9,6 +9,5 @@ fn public_calls(rt: HostRuntime) -> Result<(), Fail> {
     library::derived_events_have_a_value(alloc)?;
     library::rows_of_a_file_have_their_names(alloc)?;
     library::sums_may_be_fewer_than_events(alloc)?;
-    lines::refused_from_then_on(alloc)?;
-    imports::a_file_has_at_most_so_many_bytes(alloc)
+    lines::refused_from_then_on(alloc)
 }

@@ -1,25 +1,27 @@
 // A file in memory.
-ghost use Rattle.std.specs.Prelude.{◌≤◌, length};
+ghost use Rattle.std.specs.Prelude.{◌≤◌, length, IfSome};
 
 use prof_library::{ReadFault, Source};
 
-/// The bytes that are left of a file, which gives at most `most` of them at a time.
+/// The bytes that are left of a file, which gives at most `most` of them at a time; each read after `sound` of them fails.
 #[derive(Clone, Copy)]
 pub(crate) struct Bytes {
     pub(crate) left: &'static [u8],
     pub(crate) most: usize,
+    pub(crate) sound: u64,
 }
 
 impl Bytes {
     /// No guarantee: the tests see what it gives.
-    fn give(&mut self, buf: &mut [u8]) -> usize
-        ensures { result ≤ length buf.new }
+    fn give(&mut self, buf: &mut [u8]) -> Option<usize>
+        ensures { IfSome result (λ n. n ≤ length buf.new) }
     {
+        self.sound = self.sound.checked_sub(1)?;
         let count = self.left.len().min(self.most).min(buf.len());
         let (front, rest) = self.left.split_at(count);
         buf[..count].copy_from_slice(front);
         self.left = rest;
-        count
+        Some(count)
     }
 }
 
@@ -27,7 +29,7 @@ impl Source for Bytes {
     ghost reads = { λ from outcome to. Unit {0} };
 
     fn read(&mut self, buf: &mut [u8]) -> Result<usize, ReadFault> {
-        Ok(self.give(buf))
+        self.give(buf).ok_or(ReadFault)
     }
 }
 

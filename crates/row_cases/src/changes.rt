@@ -110,6 +110,25 @@ const ONE_GROUP_AND_NO_MORE: &[Step] = &[
     (Asked::Ask(Question::Groups), "g - -\n"),
 ];
 
+/// A file of 15 bytes.
+const SMALL: &[u8] = b"events: Ir\n1 1\n";
+
+/// Where a file has at most 15 bytes. Behind the last byte is one read more, which may fail.
+const FIFTEEN_BYTES: &[Step] = &[
+    (Asked::ImportFailing(SMALL, 15), "refused: read failed\n"),
+    (Asked::ImportFailing(SMALL, 16), "run 1\n"),
+    (Asked::ImportSlowly(SMALL), "held 1\n"),
+    (Asked::Import(SMALL), "held 1\n"),
+];
+
+/// Where it has at most 14: the byte above them says so, if it is read.
+const FOURTEEN_BYTES: &[Step] = &[
+    (Asked::ImportSlowly(SMALL), "refused: too long\n"),
+    (Asked::Import(SMALL), "refused: too long\n"),
+    (Asked::ImportFailing(SMALL, 15), "refused: too long\n"),
+    (Asked::ImportFailing(SMALL, 14), "refused: read failed\n"),
+];
+
 /// The rows of changes, each over an empty store.
 const ROWS: [&[Step]; 6] = [
     A_FILE_IS_HELD_ONCE,
@@ -127,6 +146,17 @@ pub fn rows_of_changes(alloc: Global) -> Result<(), Fail> {
     Ok(())
 }
 
+/// The limits of the program, but for the length of a file.
+fn of_bytes(bytes: u64) -> Limits {
+    let standard = Limits::standard();
+    Limits {
+        bytes,
+        runs: standard.runs,
+        groups: standard.groups,
+        numbers: standard.numbers,
+    }
+}
+
 pub fn rows_under_small_limits(alloc: Global) -> Result<(), Fail> {
     let standard = Limits::standard();
     let two_runs = Limits {
@@ -142,7 +172,9 @@ pub fn rows_under_small_limits(alloc: Global) -> Result<(), Fail> {
         groups: 1,
         numbers: standard.numbers,
     };
-    print_within(alloc, one_group, ONE_GROUP_AND_NO_MORE)
+    print_within(alloc, one_group, ONE_GROUP_AND_NO_MORE)?;
+    print_within(alloc, of_bytes(15), FIFTEEN_BYTES)?;
+    print_within(alloc, of_bytes(14), FOURTEEN_BYTES)
 }
 
 pub fn statuses_of_answers() -> Result<(), Fail> {
@@ -157,14 +189,7 @@ pub fn statuses_of_answers() -> Result<(), Fail> {
 
 /// A file that has no end is too long.
 pub(crate) fn endless_over<S: RunStore + Drop>(alloc: Global, store: S) -> Result<(), Fail> {
-    let standard = Limits::standard();
-    let limits = Limits {
-        bytes: 15,
-        runs: standard.runs,
-        groups: standard.groups,
-        numbers: standard.numbers,
-    };
-    let mut warehouse = Warehouse::new(store, limits);
+    let mut warehouse = Warehouse::new(store, of_bytes(15));
     let answer = warehouse.import(alloc, Kind::Callgrind, b"a.out", &mut Endless);
     if !matches!(answer, Answer::Refused(Refusal::TooLong)) {
         Err("an endless file is not too long")?;

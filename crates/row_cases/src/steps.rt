@@ -20,6 +20,8 @@ pub(crate) enum Asked {
     ImportNothing,
     /// That of one which gives a byte at a time.
     ImportSlowly(&'static [u8]),
+    /// That of one which gives a byte at a time, and of which each read after so many fails.
+    ImportFailing(&'static [u8], u64),
     /// That of folded stacks.
     ImportFolded(&'static [u8]),
     Remove(u32),
@@ -61,16 +63,20 @@ pub(crate) type Step = (Asked, &'static str);
 /// How many bytes a file gives at most at a time.
 const PIECE: usize = 4096;
 
-fn import(
-    kind: Kind,
-    label: &'static [u8],
-    left: &'static [u8],
-    most: usize,
-) -> Command<Bytes, &'static [u8]> {
+/// A file that is read to its end.
+fn sound(left: &'static [u8], most: usize) -> Bytes {
+    Bytes {
+        left,
+        most,
+        sound: u64::MAX,
+    }
+}
+
+fn import(kind: Kind, label: &'static [u8], source: Bytes) -> Command<Bytes, &'static [u8]> {
     Command::Import {
         kind,
         label,
-        source: Bytes { left, most },
+        source,
     }
 }
 
@@ -128,10 +134,18 @@ fn query_of(question: Question) -> Query<&'static [u8]> {
 
 fn command_of(asked: Asked) -> Command<Bytes, &'static [u8]> {
     match asked {
-        Asked::Import(file) => import(Kind::Callgrind, b"a.out", file, PIECE),
-        Asked::ImportNothing => import(Kind::Callgrind, b"empty.out", b"", PIECE),
-        Asked::ImportSlowly(file) => import(Kind::Callgrind, b"a.out", file, 1),
-        Asked::ImportFolded(file) => import(Kind::Folded, b"a.folded", file, PIECE),
+        Asked::Import(file) => import(Kind::Callgrind, b"a.out", sound(file, PIECE)),
+        Asked::ImportNothing => import(Kind::Callgrind, b"empty.out", sound(b"", PIECE)),
+        Asked::ImportSlowly(file) => import(Kind::Callgrind, b"a.out", sound(file, 1)),
+        Asked::ImportFailing(left, sound) => {
+            let source = Bytes {
+                left,
+                most: 1,
+                sound,
+            };
+            import(Kind::Callgrind, b"a.out", source)
+        }
+        Asked::ImportFolded(file) => import(Kind::Folded, b"a.folded", sound(file, PIECE)),
         Asked::Remove(run) => Command::Remove(run),
         Asked::MakeGroup(name) => Command::MakeGroup(name),
         Asked::DropGroup(name) => Command::DropGroup(name),
@@ -142,7 +156,7 @@ fn command_of(asked: Asked) -> Command<Bytes, &'static [u8]> {
             selection: Selection::All,
             event,
             file,
-            source: Bytes { left, most: PIECE },
+            source: sound(left, PIECE),
         },
         Asked::Ask(question) => Command::Ask(query_of(question)),
     }
@@ -213,7 +227,7 @@ fn empty_store(alloc: Global) -> Result<PageRuns<Memory>, &'static str> {
 fn source_of(command: &Command<Bytes, &'static [u8]>) -> Bytes {
     match command {
         Command::Import { source, .. } | Command::Annotate { source, .. } => *source,
-        _ => Bytes { left: &[], most: 1 },
+        _ => sound(b"", 1),
     }
 }
 

@@ -2,9 +2,7 @@
 use crate::given::Given;
 use byte_io::Unread;
 use file_reading::{ParsedFile, parse_file};
-use page_runs::PageRuns;
 use run_stores::{Kind, RunStore, StoreError, SummedFile, is_group_name};
-use sqlite_disk::Disk;
 use std::alloc::Global;
 
 /// The manual's example of calls.
@@ -94,7 +92,7 @@ fn put_group<S: RunStore>(store: &mut S) -> Result<(), StoreError> {
 }
 
 /// Changes the rows of a store.
-fn change_rows<S: RunStore>(
+pub(crate) fn change_rows<S: RunStore>(
     store: &mut S,
     alloc: Global,
     change: Change,
@@ -108,17 +106,5 @@ fn change_rows<S: RunStore>(
         Change::Leave(run) => store.leave(GROUP, run),
         Change::DropGroup => store.drop_group(GROUP),
         Change::Checkpoint => Ok(()),
-    }
-}
-
-/// Changes a store in pages.
-pub(crate) fn change_pages<D: Disk>(
-    store: &mut PageRuns<D>,
-    alloc: Global,
-    change: Change,
-) -> Result<(), StoreError> {
-    match change {
-        Change::Checkpoint => store.checkpoint(),
-        _ => change_rows(store, alloc, change),
     }
 }

@@ -9,8 +9,6 @@ mod changes;
 mod given;
 // What has to hold in a test.
 mod holding;
-// Imports into a warehouse with small limits.
-pub mod imports;
 // Public calls that the program does not make.
 pub mod library;
 // What takes lines may refuse one; then each later piece is refused.

@@ -1,7 +1,7 @@
 // A store in pages of which one allocation is refused, by tests/by_hand/refuse_each: the call that meets it says so and changes
 // nothing, and the next call goes on.
-use crate::changes::{CHANGES, Change, change_pages};
-use crate::stores::{new_pages, told_of_pages};
+use crate::changes::{CHANGES, Change};
+use crate::stores::{change_pages, new_pages, told_of_pages};
 use page_runs::PageRuns;
 use run_stores::StoreError;
 use sqlite_disk::Disk;

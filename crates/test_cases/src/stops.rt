@@ -1,10 +1,9 @@
 // A machine that stops at a change of the files of a store that is made or migrated by SQL, or changed by its pages: of the
 // log, of the database file, or of both. Opened again, they tell what they told before the step or with it, and with it where
 // it was answered as done.
-use crate::changes::{CHANGES, Change, change_pages};
-use crate::stores::{DatabaseJob, Making, Opening, done_in, pages_in, told_by_pages, told_by_sql};
+use crate::changes::{CHANGES, Change};
+use crate::stores::{DatabaseJob, change_pages, is_done_in, pages_in, told_by_pages, told_by_sql};
 use run_stores::Kind;
-use sqlite::{Alter, Connection};
 use sqlite_disk::{Disk, Files};
 use std::alloc::Global;
 use std::test::Fail;
@@ -15,14 +14,6 @@ const PAGES: [u64; 12] = [12, 8, 2, 2, 2, 2, 2, 1, 18, 12, 4, 13];
 
 /// By SQL every so many stops are looked at too.
 const BY_SQL: u64 = 5;
-
-/// What makes a store of version 1 of one of version 2 whose costs are of thread 0.
-const BACK: [&str; 4] = [
-    "CREATE TABLE cell (run INTEGER NOT NULL REFERENCES run ON DELETE CASCADE, ob INTEGER NOT NULL, fl INTEGER NOT NULL, fn INTEGER NOT NULL, line INTEGER NOT NULL, event INTEGER NOT NULL, cost INTEGER NOT NULL, PRIMARY KEY (run, ob, fl, fn, line, event)) STRICT",
-    "INSERT INTO cell SELECT run, ob, fl, fn, line, event, cost FROM thread_cell",
-    "DROP TABLE thread_cell",
-    "UPDATE meta SET schema = 1",
-];
 
 /// What is done while a machine stops.
 #[derive(Clone, Copy)]
@@ -68,12 +59,13 @@ fn stepped_in<D: Disk + Drop>(
     if let Step::Change(change) = step {
         return changed_in(alloc, files, change, meter, changes);
     }
-    meter.allow(changes);
-    let (is_done, files) = match step {
-        Step::Make => done_in(alloc, files, Making {}),
-        _ => done_in(alloc, files, Opening {}),
+    let job = match step {
+        Step::Make => DatabaseJob::Make,
+        _ => DatabaseJob::Open,
     };
-    Ok((matches!(is_done, Some(true)), files))
+    meter.allow(changes);
+    let (is_done, files) = is_done_in(alloc, files, job);
+    Ok((is_done.unwrap_or(false), files))
 }
 
 /// What a step comes to over files that stop.
@@ -258,30 +250,12 @@ fn made(alloc: Global, stops: Stops) -> Result<Image, Fail> {
     Ok(made)
 }
 
-/// A store of version 1 is made of one of version 2: whether it is.
-#[derive(Drop)]
-struct MakingFirst {}
-
-impl DatabaseJob for MakingFirst {
-    type Found = bool;
-
-    fn over<S: Alter + Drop>(self, conn: Connection<S>) -> (bool, Connection<S>) {
-        let mut conn = conn;
-        for text in BACK {
-            if conn.execute(text, &[]).is_err() {
-                return (false, conn);
-            }
-        }
-        (true, conn)
-    }
-}
-
 /// The files of a store of version 1 with what a store holds.
 fn as_first(alloc: Global, image: &Image) -> Result<Image, Fail> {
     let meter = Meter::new(alloc, Stops::Both)?;
     let files = files_of(alloc, &image.log, &image.database, 0, &meter)?;
-    let (is_made, files) = done_in(alloc, files, MakingFirst {});
-    if !matches!(is_made, Some(true)) {
+    let (is_made, files) = is_done_in(alloc, files, DatabaseJob::MakeFirst);
+    if is_made != Some(true) {
         return Err("no store of version 1")?;
     }
     Ok(Left::of(files).into_written())

@@ -1,8 +1,9 @@
 // Stores in files: made by SQL, opened by their pages. No guarantees: the tests see what the stores tell.
+use crate::changes::{Change, change_rows};
 use crate::told::told_by;
 use page_runs::PageRuns;
 use prof_store::Store;
-use run_stores::StoreError;
+use run_stores::{RunStore, StoreError};
 use sqlite::{Alter, Connection, FileStore};
 use sqlite_disk::{Disk, Files};
 use sqlite_pager::Options;
@@ -42,58 +43,62 @@ fn closed<D: Disk + Drop>(conn: Connection<FileStore<D>>) -> Files<D> {
     }
 }
 
-/// What is done over a database. It is written over any: what is called at the type of one in files takes half a minute to prove
-/// at each call, so that is done in one place.
-pub(crate) trait DatabaseJob {
-    /// What it finds.
-    type Found: Drop;
-
-    /// Does it, and hands the database back.
-    fn over<S: Alter + Drop>(self, conn: Connection<S>) -> (Self::Found, Connection<S>);
+/// What is done over a database.
+#[derive(Clone, Copy)]
+pub(crate) enum DatabaseJob {
+    /// A store is made in an empty one.
+    Make,
+    /// A store is opened, and one of version 1 brought up.
+    Open,
+    /// A store of version 1 is made of one of version 2.
+    MakeFirst,
 }
 
-/// Does a job over the database in files: what it finds, where they hold one that is opened, and the files behind it.
-pub(crate) fn done_in<D: Disk + Drop, J: DatabaseJob + Drop>(
+/// What makes a store of version 1 of one of version 2 whose costs are of thread 0.
+const BACK: [&str; 4] = [
+    "CREATE TABLE cell (run INTEGER NOT NULL REFERENCES run ON DELETE CASCADE, ob INTEGER NOT NULL, fl INTEGER NOT NULL, fn INTEGER NOT NULL, line INTEGER NOT NULL, event INTEGER NOT NULL, cost INTEGER NOT NULL, PRIMARY KEY (run, ob, fl, fn, line, event)) STRICT",
+    "INSERT INTO cell SELECT run, ob, fl, fn, line, event, cost FROM thread_cell",
+    "DROP TABLE thread_cell",
+    "UPDATE meta SET schema = 1",
+];
+
+/// Makes a store of version 1 of one of version 2: whether it is made, and the database.
+fn make_first<S: Alter + Drop>(conn: Connection<S>) -> (bool, Connection<S>) {
+    let mut conn = conn;
+    for text in BACK {
+        if conn.execute(text, &[]).is_err() {
+            return (false, conn);
+        }
+    }
+    (true, conn)
+}
+
+/// Does a job over a database: whether it is done, and the database. (It is written over any: what is called at the type of one
+/// in files takes half a minute to prove at each call, so there is one such call.)
+fn is_done<S: Alter + Drop>(job: DatabaseJob, conn: Connection<S>) -> (bool, Connection<S>) {
+    let store = match job {
+        DatabaseJob::Make => Store::create(conn),
+        DatabaseJob::Open => Store::open(conn),
+        DatabaseJob::MakeFirst => return make_first(conn),
+    };
+    match store {
+        Ok(store) => (true, store.into_connection()),
+        Err((_, conn)) => (false, conn),
+    }
+}
+
+/// Does a job over the database in files: whether it is done, where they hold one that is opened, and the files behind it.
+pub(crate) fn is_done_in<D: Disk + Drop>(
     alloc: Global,
     files: Files<D>,
-    job: J,
-) -> (Option<J::Found>, Files<D>) {
+    job: DatabaseJob,
+) -> (Option<bool>, Files<D>) {
     match database_in(alloc, files) {
         Ok(conn) => {
-            let (found, conn) = job.over(conn);
-            (Some(found), closed(conn))
+            let (is_done, conn) = is_done(job, conn);
+            (Some(is_done), closed(conn))
         }
         Err(files) => (None, files),
-    }
-}
-
-/// A store is made in an empty database: whether it is.
-#[derive(Drop)]
-pub(crate) struct Making {}
-
-impl DatabaseJob for Making {
-    type Found = bool;
-
-    fn over<S: Alter + Drop>(self, conn: Connection<S>) -> (bool, Connection<S>) {
-        match Store::create(conn) {
-            Ok(store) => (true, store.into_connection()),
-            Err((_, conn)) => (false, conn),
-        }
-    }
-}
-
-/// A store is opened, and one of version 1 brought up: whether it is.
-#[derive(Drop)]
-pub(crate) struct Opening {}
-
-impl DatabaseJob for Opening {
-    type Found = bool;
-
-    fn over<S: Alter + Drop>(self, conn: Connection<S>) -> (bool, Connection<S>) {
-        match Store::open(conn) {
-            Ok(store) => (true, store.into_connection()),
-            Err((_, conn)) => (false, conn),
-        }
     }
 }
 
@@ -102,7 +107,7 @@ pub(crate) fn made_in<D: Disk + Drop>(
     alloc: Global,
     files: Files<D>,
 ) -> Result<Files<D>, &'static str> {
-    match done_in(alloc, files, Making {}) {
+    match is_done_in(alloc, files, DatabaseJob::Make) {
         (Some(true), files) => Ok(files),
         _ => Err("no store is made"),
     }
@@ -144,12 +149,52 @@ pub(crate) fn new_pages(alloc: Global) -> Result<PageRuns<Stopping>, &'static st
     }
 }
 
+/// Changes a store, or asks for all that it tells: nothing where it is changed.
+fn visit<S: RunStore>(
+    store: &mut S,
+    alloc: Global,
+    change: Option<Change>,
+) -> Result<Vec<u8>, StoreError> {
+    match change {
+        Some(change) => {
+            change_rows(store, alloc, change)?;
+            Ok(Vec::new(alloc))
+        }
+        None => told_by(store, alloc),
+    }
+}
+
+/// The same of a store in pages: the one place where such a store is handed to what is written over any, since each takes half a
+/// minute to prove. (The checker gives up where the files are of one kind.)
+fn visit_pages<D: Disk>(
+    store: &mut PageRuns<D>,
+    alloc: Global,
+    change: Option<Change>,
+) -> Result<Vec<u8>, StoreError> {
+    visit(store, alloc, change)
+}
+
+/// Changes a store in pages.
+pub(crate) fn change_pages<D: Disk>(
+    store: &mut PageRuns<D>,
+    alloc: Global,
+    change: Change,
+) -> Result<(), StoreError> {
+    match change {
+        Change::Checkpoint => store.checkpoint(),
+        change => {
+            drop(visit_pages(store, alloc, Some(change))?);
+            Ok(())
+        }
+    }
+}
+
 /// All that a store in pages tells.
 pub(crate) fn told_of_pages<D: Disk>(
     store: &mut PageRuns<D>,
     alloc: Global,
 ) -> Result<Vec<u8>, StoreError> {
-    told_by(store, alloc)
+    visit_pages(store, alloc, None)
 }
 
 /// What files tell by their pages.
@@ -173,7 +218,7 @@ pub(crate) fn told_by_sql<D: Disk + Drop>(
     alloc: Global,
     files: Files<D>,
 ) -> Result<Vec<u8>, &'static str> {
-    match done_in(alloc, files, Opening {}) {
+    match is_done_in(alloc, files, DatabaseJob::Open) {
         (Some(true), files) => told_by_pages(alloc, files),
         (Some(false), files) => {
             drop(made_in(alloc, files)?);
