@@ -1,2 +1,3 @@
+pub mod Asked
 pub mod Jobs
 pub mod Theorem

@@ -1,12 +1,12 @@
 // What the words of a command line say is done, over the files that they name.
-ghost use Rattle.std.specs.Prelude.{◌≡◌};
-ghost use Rattle.sessions.specs.Commands.{HasCommands};
-ghost use Rattle.program_stores.specs.declared.running.Asked.TheVariants as asked;
+ghost use Rattle.std.specs.Prelude.{IfOk};
+ghost use Rattle.program_stores.specs.Asked.{IsAskedBy, IsJobOf};
 
 use crate::jobs::{Done, Job, Outputs};
 use crate::telling::tell_person;
 use crate::works::work_at;
 use anyhow::Result;
+use cg_text::ListVec;
 use command_line::{Plan, PlanEnd, plan};
 use file_reading::{
     Beginning, Finding, SeenFile, TotalText, fault_finding, finding_line, total_read,
@@ -15,8 +15,8 @@ use file_reading::{
 use prof_http::Service;
 use profile_records::Kind;
 use run_stores::RunStore;
-use sessions::{commands_of, print_total};
-use std::alloc::AllocError;
+use sessions::{WordsCommand, commands_of, print_total};
+use std::alloc::{AllocError, Global};
 use std::io::ErrorKind;
 use std::process::ExitCode;
 use std::rt::HostRuntime;
@@ -80,18 +80,36 @@ fn run_total(rt: &HostRuntime, path: &str) -> io::Result<ExitCode> {
     Ok(ExitCode::from(status))
 }
 
-/// What a plan asks for.
-enum Asked<'p> {
-    Total(&'p str),
-    Serve(&'p str, Service),
-    Commands,
+/// What a plan asks for: the total of a file, or what is done over the store at a path.
+#[derive(Drop)]
+enum Asked<'a> {
+    Total(&'a str),
+    Work(&'a str, Work<'a>),
 }
 
-fn asked_of<'p>(plan: &'p Plan<'_>) -> Asked<'p>
-    ensures { (result ≡ asked.Commands) → HasCommands plan.now }
+/// What is done over a store, with the commands that it holds.
+#[derive(Drop)]
+enum Work<'a> {
+    Run(ListVec<WordsCommand<'a>>),
+    Serve(Service),
+}
+
+impl<'a> Work<'a> {
+    fn job(&self) -> Job<'_, 'a>
+        ensures { IsJobOf self.now result }
+    {
+        match self {
+            Work::Run(commands) => Job::Run(commands.as_slice()),
+            Work::Serve(service) => Job::Serve(*service),
+        }
+    }
+}
+
+fn asked_of<'a>(alloc: Global, plan: &Plan<'a>) -> Result<Asked<'a>, AllocError>
+    ensures { IfOk result (IsAskedBy plan.now) }
 {
     match plan {
-        Plan::Total { path } => Asked::Total(path),
+        Plan::Total { path } => Ok(Asked::Total(*path)),
         Plan::Serve {
             db,
             port,
@@ -105,9 +123,12 @@ fn asked_of<'p>(plan: &'p Plan<'_>) -> Asked<'p>
                 most: *most_bytes as usize,
                 log: *log,
             };
-            Asked::Serve(db, service)
+            Ok(Asked::Work(*db, Work::Serve(service)))
         }
-        _ => Asked::Commands,
+        _ => {
+            let (db, commands) = commands_of(alloc, plan)?;
+            Ok(Asked::Work(db, Work::Run(commands)))
+        }
     }
 }
 
@@ -129,27 +150,20 @@ fn print_unplanned(rt: &HostRuntime, end: PlanEnd) -> io::Result<ExitCode> {
 }
 
 /// Does what the words that the program was started with say, and prints what it came to. No guarantee: which files stand at
-/// the paths of a plan the checker does not know; `commands_of`, `total_read` and `work_at` say what is made of them.
+/// the paths of a plan the checker does not know; `asked_of`, `total_read` and `work_at` say what is made of them.
 pub fn run<S: RunStore + Drop, P: Opener<S>, O: Outputs>(
     rt: &HostRuntime,
     outputs: &O,
 ) -> Result<ExitCode> {
     let words: Vec<String> = env::args(rt)?.collect(rt.alloc())?;
     let status = match plan(rt.alloc(), words.as_slice()) {
-        Ok(plan) => match asked_of(&plan) {
-            Asked::Total(path) => run_total(rt, path),
-            Asked::Serve(db, service) => {
-                let came_to = work_at::<S, P, O>(rt, outputs, db, Job::Serve(service));
+        Ok(plan) => match asked_of(rt.alloc(), &plan) {
+            Ok(Asked::Total(path)) => run_total(rt, path),
+            Ok(Asked::Work(db, work)) => {
+                let came_to = work_at::<S, P, O>(rt, outputs, db, work.job());
                 status_of::<S, P, O::Out>(rt, db, came_to)
             }
-            Asked::Commands => match commands_of(rt.alloc(), &plan) {
-                Ok((db, commands)) => {
-                    let job = Job::Run(commands.as_slice());
-                    let came_to = work_at::<S, P, O>(rt, outputs, db, job);
-                    status_of::<S, P, O::Out>(rt, db, came_to)
-                }
-                Err(AllocError) => print_refused(rt, "out of memory"),
-            },
+            Err(AllocError) => print_refused(rt, "out of memory"),
         },
         Err(end) => print_unplanned(rt, end),
     };
