@@ -1,5 +1,5 @@
 -- What calls that read leave of a store.
-use Rattle.std.proofs.Common.{◌≡◌, ◌⊎◌, ℕ, Bool, true, false, IsTrue, ◌&&◌, List, Result, Ok, Err, refl, sym, ap₂, subst, ◌∙◌, inl, inr}
+use Rattle.std.proofs.Common.{◌≡◌, ◌⊎◌, ℕ, Bool, true, false, IsTrue, ◌&&◌, List, Result, Ok, Err, IfErr, refl, sym, ap₂, subst, ◌∙◌, inl, inr}
 use Rattle.std.proofs.lemmas.Bool.{and_parts, cases_Bool}
 use Rattle.std.specs.Result.{IsErr, is_ok}
 use Rattle.sqlite_disk.specs.Disk.{MoreFaults}
@@ -34,6 +34,11 @@ none_answered (Err e) failed done = absurd (let none : false ≡ true = done in 
 
 pub none_told : {T E P : Type 0} (r : Result T E) (b : Bool) → IsErr r → IsTrue (is_ok r && b) → P
 none_told r b failed done = none_answered r failed (and_parts (is_ok r) b done).0
+
+-- an error comes only where something is not held
+pub serves_held : {T E : Type 0} {is : Bool} (r : Result T E) → IfErr r (λ _. is ≡ false) → is ≡ true → IsTrue (is_ok r)
+serves_held (Ok x) none held = refl
+serves_held (Err e) none held = absurd (let both : true ≡ false = sym held ∙ none in cc)
 
 module _ {D : Type 0} {g : Ghosts D} where
   -- it can still be used, or failed for good

@@ -1,5 +1,5 @@
 // A store of runs over the pages of its file.
-ghost use Rattle.std.specs.Prelude.{◌≡◌, length, IsTrue, Ok, IfOk, OnOk};
+ghost use Rattle.std.specs.Prelude.{◌≡◌, ¬◌, length, IsTrue, Ok, IfErr, IfOk, OnOk};
 ghost use Rattle.sqlite_wal.specs.Files.{outcomes, seen_image};
 ghost use Rattle.sqlite_wal.specs.Reads.{AreClean};
 ghost use Rattle.page_files.specs.Files.{page_size, IsUsable, may_leave as files_may_leave};
@@ -99,7 +99,8 @@ impl<D: Disk + Drop> PageRuns<D> {
 impl<D: Disk> PageRuns<D> {
     /// `Store` where its files have failed for good: each call fails then.
     fn if_usable(&self) -> Result<(), StoreError>
-        ensures { OnOk result (IsUsable self.now.file) }
+        ensures usable { OnOk result (IsUsable self.now.file) }
+        ensures shut { IfErr result (λ _. ¬ (IsUsable self.now.file)) }
     {
         match self.file.if_usable() {
             Ok(()) => Ok(()),

@@ -2,6 +2,7 @@
 use Rattle.std.proofs.Common.{◌≡◌, ◌<◌, ◌||◌, ◌∙◌, true, false, if◌then◌else◌, filter, Result, Ok, Err, OnOk, ℕ, zero, suc, Bool, List, [], ◌∷◌, map, length, get_or, inl, inr, refl, sym, ap, subst, arith}
 use Rattle.std.specs.List.{list_any}
 use Rattle.std.specs.Result.{is_ok}
+use Rattle.std.proofs.lemmas.List.Folds.{list_any_none}
 use Rattle.plain_tables.specs.Lists.{Has}
 
 -- whether one is there
@@ -28,6 +29,10 @@ module _ {X Y : Type 0} (row : X → Y) (xs items : List X) (lines : List Y) (sa
 
   pub each_line : (P : Y → Type 0) → ((k : ℕ) (d : X) → k < length items → P (row (get_or items k d))) → (y : Y) → Has lines y → P y
   each_line P all y there = each_row row P items all y (subst (λ l. Has l y) (sym (ap (map row) same ∙ was)) there)
+
+  -- none that was read passes the test, so no row does
+  pub none_there : (p : Y → Bool) → ((k : ℕ) (d : X) → k < length items → p (row (get_or items k d)) ≡ false) → list_any p lines ≡ false
+  none_there p none = subst (λ l. list_any p l ≡ false) (ap (map row) same ∙ was) (sym (any_row row p items) ∙ list_any_none (λ x. p (row x)) items none)
 
 -- a part of what is there
 pub map_row : {X Y Z : Type 0} (row : X → Y) (part : Y → Z) (xs : List X) → map (λ x. part (row x)) xs ≡ map part (map row xs)

@@ -1,5 +1,5 @@
 // What is asked of one run, one group or one digest.
-ghost use Rattle.std.specs.Prelude.{◌≡◌, length, IfOk};
+ghost use Rattle.std.specs.Prelude.{◌≡◌, false, length, IfErr, IfOk};
 ghost use Rattle.plain_tables.specs.Changes.{has_group, has_run};
 ghost use Rattle.plain_tables.specs.Tables.{Tables};
 ghost use Rattle.run_stores.specs.Lookups.{IsBaselineOf, IsKindOf, IsRunOf};
@@ -60,6 +60,7 @@ impl RunLists {
     /// The kind of a run. `Store` where no such run is held.
     pub fn kind_of(&self, run: u32) -> Result<Kind, StoreError>
         ensures told { (t : Tables) → AreListed t self.now → IfOk result (λ answer. IsKindOf run t answer) }
+        ensures none { (t : Tables) → AreListed t self.now → IfErr result (λ _. has_run t run ≡ false) }
     {
         for line in &self.runs {
             if line.entry.number == run {
@@ -72,6 +73,7 @@ impl RunLists {
     /// The baseline of a group, if it has one. `Store` where no such group is held.
     pub fn baseline_of(&self, name: &str) -> Result<Option<u32>, StoreError>
         ensures told { (t : Tables) → AreListed t self.now → IfOk result (λ answer. IsBaselineOf name.now t answer) }
+        ensures none { (t : Tables) → AreListed t self.now → IfErr result (λ _. has_group t name.now ≡ false) }
     {
         for line in &self.groups {
             if line.name.as_str() == name {

@@ -1,6 +1,9 @@
 -- What a store of runs represents, what a call leaves of it, whatever it answers, and what it tells.
-use Rattle.std.specs.Prelude.{◌≡◌, ◌≤◌, ◌+◌, ◌-◌, ◌^◌, ◌⊎◌, ◌&&◌, ℕ, min, Bool, false, IsTrue, Result, IfOk}
+use Rattle.std.specs.Prelude.{◌≡◌, ◌≤◌, ◌+◌, ◌-◌, ◌^◌, ◌⊎◌, ◌&&◌, ℕ, min, Bool, false, IsTrue, Result, IfErr, IfOk}
+use Rattle.std.specs.Result.{is_ok}
 use Rattle.plain_tables.specs.Tables.{Tables}
+use Rattle.plain_tables.specs.declared.errors.StoreError.{StoreError}
+use Rattle.plain_tables.specs.declared.errors.StoreError.TheVariants.{Memory}
 use Rattle.run_stores.specs.declared.states.StoreState.{Ghosts}
 
 -- the count of failures rose, unless it is at its top
@@ -128,3 +131,17 @@ module _ {S : Type 0} (g : Ghosts S) where
   -- what is answered and left tells of the rows that it represented
   abbrev pub Made : {T E : Type 0} → Result T E → S → S → (Tables → T → Type 0) → Type 0
   Made result old new P = MakesOf old new (λ t. IfOk result (P t))
+
+  -- ---- what is not refused
+
+  -- a store that can be used answers
+  abbrev pub Serves : {T E : Type 0} → Result T E → S → Type 0
+  Serves result old = IsUsable old → IsTrue (is_ok result)
+
+  -- one that is read as such rows does
+  abbrev pub ServesIf : {T E : Type 0} → Result T E → S → (Tables → Type 0) → Type 0
+  ServesIf result old P = (t : Tables) → ReadsAs t old → P t → IsTrue (is_ok result)
+
+  -- one that can be used answers where memory lasts
+  abbrev pub ServesOrMemory : {T : Type 0} → Result T StoreError → S → Type 0
+  ServesOrMemory result old = IsUsable old → IfErr result (λ e. e ≡ Memory)

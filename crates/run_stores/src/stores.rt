@@ -9,7 +9,7 @@ ghost use Rattle.run_stores.specs.Totals.{IsHeldIn};
 ghost use Rattle.plain_tables.specs.Changes.{has_group, has_run, joined, with_baseline, with_group, without_group, without_member, without_run};
 ghost use Rattle.plain_tables.specs.Labels.{IsGroupName};
 ghost use Rattle.plain_tables.specs.RunRows.{calls_in, cells_in};
-ghost use Rattle.run_stores.specs.Calls.{Asks, AsksIfOpen, Changes, ChangesIf, KeepsShut, Told};
+ghost use Rattle.run_stores.specs.Calls.{Asks, AsksIfOpen, Changes, ChangesIf, KeepsShut, Serves, ServesIf, ServesOrMemory, Told};
 ghost use Rattle.run_stores.specs.Entries.{AreGroups, IsBefore, entry_run};
 ghost use Rattle.run_stores.specs.Lookups.{IsBaselineOf, IsKindOf, IsRunOf, members_in_tables, numbers_in_tables};
 ghost use Rattle.run_stores.specs.Names.{AreAmong, IsNumberOf};
@@ -42,37 +42,44 @@ pub trait RunStore: StoreState {
     /// Whether a run is held.
     fn has_run(&mut self, run: u32) -> Result<bool, StoreError>
         ensures told { Told Self.StoreState result self.old self.new (λ t is. is ≡ has_run t run) }
-        ensures asks { Asks Self.StoreState (is_ok result) self.old self.new };
+        ensures asks { Asks Self.StoreState (is_ok result) self.old self.new }
+        ensures serves { Serves Self.StoreState result self.old };
 
     /// Whether a group is held.
     fn has_group(&mut self, name: &str) -> Result<bool, StoreError>
         ensures told { Told Self.StoreState result self.old self.new (λ t is. is ≡ has_group t name.now) }
-        ensures asks { Asks Self.StoreState (is_ok result) self.old self.new };
+        ensures asks { Asks Self.StoreState (is_ok result) self.old self.new }
+        ensures serves { Serves Self.StoreState result self.old };
 
     /// How many runs are held.
     fn run_count(&mut self) -> Result<u64, StoreError>
         ensures told { Told Self.StoreState result self.old self.new (λ t n. n ≡ length t.runs) }
-        ensures asks { Asks Self.StoreState (is_ok result) self.old self.new };
+        ensures asks { Asks Self.StoreState (is_ok result) self.old self.new }
+        ensures serves { Serves Self.StoreState result self.old };
 
     /// How many groups are held.
     fn group_count(&mut self) -> Result<u64, StoreError>
         ensures told { Told Self.StoreState result self.old self.new (λ t n. n ≡ length t.groups) }
-        ensures asks { Asks Self.StoreState (is_ok result) self.old self.new };
+        ensures asks { Asks Self.StoreState (is_ok result) self.old self.new }
+        ensures serves { Serves Self.StoreState result self.old };
 
     /// The number that the next run gets.
     fn next_run(&mut self) -> Result<u32, StoreError>
         ensures told { Told Self.StoreState result self.old self.new (λ t n. n ≡ t.next) }
-        ensures asks { Asks Self.StoreState (is_ok result) self.old self.new };
+        ensures asks { Asks Self.StoreState (is_ok result) self.old self.new }
+        ensures serves { Serves Self.StoreState result self.old };
 
     /// The run that has a digest, if one is held.
     fn run_of_digest(&mut self, digest: &[u8]) -> Result<Option<u32>, StoreError>
         ensures told { Told Self.StoreState result self.old self.new (IsRunOf digest.now) }
-        ensures asks { Asks Self.StoreState (is_ok result) self.old self.new };
+        ensures asks { Asks Self.StoreState (is_ok result) self.old self.new }
+        ensures serves { Serves Self.StoreState result self.old };
 
     /// The runs that are held, in the order of their numbers.
     fn runs(&mut self, alloc: Global) -> Result<Vec<RunEntry>, StoreError>
         ensures told { Told Self.StoreState result self.old self.new (λ t entries. map entry_run entries.items ≡ map held_run t.runs) }
-        ensures asks { Asks Self.StoreState (is_ok result) self.old self.new };
+        ensures asks { Asks Self.StoreState (is_ok result) self.old self.new }
+        ensures serves { ServesOrMemory Self.StoreState result self.old };
 
     /// The groups with their members, by name.
     fn groups(&mut self, alloc: Global) -> Result<Vec<GroupEntry>, StoreError>
@@ -83,22 +90,26 @@ pub trait RunStore: StoreState {
     /// The numbers of all runs, rising.
     fn run_numbers(&mut self, alloc: Global) -> Result<ListVec<u32>, StoreError>
         ensures told { Told Self.StoreState result self.old self.new (λ t numbers. numbers ≡ numbers_in_tables t) }
-        ensures asks { Asks Self.StoreState (is_ok result) self.old self.new };
+        ensures asks { Asks Self.StoreState (is_ok result) self.old self.new }
+        ensures serves { ServesOrMemory Self.StoreState result self.old };
 
     /// The numbers of the runs that are in a group, rising: none where there is no such group.
     fn members_of(&mut self, alloc: Global, name: &str) -> Result<ListVec<u32>, StoreError>
         ensures told { Told Self.StoreState result self.old self.new (λ t numbers. numbers ≡ members_in_tables name.now t) }
-        ensures asks { Asks Self.StoreState (is_ok result) self.old self.new };
+        ensures asks { Asks Self.StoreState (is_ok result) self.old self.new }
+        ensures serves { ServesOrMemory Self.StoreState result self.old };
 
     /// The kind of a run. `Store` where no such run is held.
     fn kind_of(&mut self, run: u32) -> Result<Kind, StoreError>
         ensures told { Told Self.StoreState result self.old self.new (IsKindOf run) }
-        ensures asks { Asks Self.StoreState (is_ok result) self.old self.new };
+        ensures asks { Asks Self.StoreState (is_ok result) self.old self.new }
+        ensures serves { ServesIf Self.StoreState result self.old (λ t. has_run t run ≡ true) };
 
     /// The baseline of a group, if it has one. `Store` where no such group is held.
     fn baseline_of(&mut self, name: &str) -> Result<Option<u32>, StoreError>
         ensures told { Told Self.StoreState result self.old self.new (IsBaselineOf name.now) }
-        ensures asks { Asks Self.StoreState (is_ok result) self.old self.new };
+        ensures asks { Asks Self.StoreState (is_ok result) self.old self.new }
+        ensures serves { ServesIf Self.StoreState result self.old (λ t. has_group t name.now ≡ true) };
 
     // ---- sums
 

@@ -1,5 +1,5 @@
 use Rattle.std.proofs.lemmas.Result.{IfOk-from_err}
-use Rattle.page_runs.proofs.States.{asked_nothing, asked_usable, none_answered}
+use Rattle.page_runs.proofs.States.{asked_nothing, asked_usable, none_answered, serves_held}
 use Rattle.page_runs.proofs.store.PageRunsRunStore.baseline_of.Goals as goal
 
 pub returns-in_err-if_usable-clause-told : goal.returns-in_err-if_usable-clause-told
@@ -12,4 +12,10 @@ pub returns-clause-told : goal.returns-clause-told
 returns-clause-told g c = λ faithful t is. c.baseline_of.ensures.told t is.shows.listed
 
 pub returns-clause-asks : goal.returns-clause-asks
-returns-clause-asks g c = asked_usable c.args.self.now c.in_ok-if_usable.ensures _
+returns-clause-asks g c = asked_usable c.args.self.now c.in_ok-if_usable.ensures.usable _
+
+pub returns-in_err-if_usable-clause-serves : goal.returns-in_err-if_usable-clause-serves
+returns-in_err-if_usable-clause-serves g c = λ t is held. absurd (c.in_err-if_usable.ensures.shut is.usable)
+
+pub returns-clause-serves : goal.returns-clause-serves
+returns-clause-serves g c = λ t is held. serves_held c.baseline_of.result (c.baseline_of.ensures.none t is.shows.listed) held

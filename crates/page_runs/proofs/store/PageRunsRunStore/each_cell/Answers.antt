@@ -38,7 +38,7 @@ pub returns-clause-asks : goal.returns-clause-asks
 returns-clause-asks g c =
     asked_keeping _ _ (stays_read _ _ c.each_line.ensures.reads) refl refl
     (λ clean t is. c.keep.ensures.kept t is.kept_cells (taken g c t clean is).1)
-    _ (λ _. c.in_ok-if_usable-2.ensures)
+    _ (λ _. c.in_ok-if_usable-2.ensures.usable)
 
 pub returns-in_err-taken-clause-asks : goal.returns-in_err-taken-clause-asks
 returns-in_err-taken-clause-asks g c = asked _ _ c.each_line.ensures.reads refl refl refl _ (none_told _ _ c.from_residual-in_err-taken.ensures.0)
@@ -68,4 +68,4 @@ pub returns-in-Some-clause-told : goal.returns-in-Some-clause-told
 returns-in-Some-clause-told g c = λ faithful t is. c.each_kept.ensures (cells_in c.args.run t) (c.in-Some.ensures t is.shows.kept_cells)
 
 pub returns-in-Some-clause-asks : goal.returns-in-Some-clause-asks
-returns-in-Some-clause-asks g c = asked_usable c.args.self.now c.in_ok-if_usable.ensures _
+returns-in-Some-clause-asks g c = asked_usable c.args.self.now c.in_ok-if_usable.ensures.usable _

@@ -22,7 +22,7 @@ returns-clause-told g c faithful t is =
     c.finish.ensures start lines has ∙ ap (λ l. fold sink.step start (map stack_held l)) (sym same)
 
 pub returns-clause-asks : goal.returns-clause-asks
-returns-clause-asks g c = asked _ _ c.each_line.ensures.reads refl refl refl _ (λ _. c.in_ok-if_usable.ensures)
+returns-clause-asks g c = asked _ _ c.each_line.ensures.reads refl refl refl _ (λ _. c.in_ok-if_usable.ensures.usable)
 
 pub returns-in_err-taken-clause-asks : goal.returns-in_err-taken-clause-asks
 returns-in_err-taken-clause-asks g c = asked _ _ c.each_line.ensures.reads refl refl refl _ (none_told _ _ c.from_residual-in_err-taken.ensures.0)

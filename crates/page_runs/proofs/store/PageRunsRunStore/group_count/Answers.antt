@@ -12,4 +12,10 @@ pub returns-clause-told : goal.returns-clause-told
 returns-clause-told g c = λ faithful t is. c.group_count.ensures.told t is.shows.listed
 
 pub returns-clause-asks : goal.returns-clause-asks
-returns-clause-asks g c = asked_usable c.args.self.now c.in_ok-if_usable.ensures _
+returns-clause-asks g c = asked_usable c.args.self.now c.in_ok-if_usable.ensures.usable _
+
+pub returns-in_err-if_usable-clause-serves : goal.returns-in_err-if_usable-clause-serves
+returns-in_err-if_usable-clause-serves g c = λ usable. absurd (c.in_err-if_usable.ensures.shut usable)
+
+pub returns-clause-serves : goal.returns-clause-serves
+returns-clause-serves g c = λ usable. cc

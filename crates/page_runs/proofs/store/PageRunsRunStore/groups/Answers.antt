@@ -18,4 +18,4 @@ pub returns-clause-rising : goal.returns-clause-rising
 returns-clause-rising g c = c.groups.ensures.rising
 
 pub returns-clause-asks : goal.returns-clause-asks
-returns-clause-asks g c = asked_usable c.args.self.now c.in_ok-if_usable.ensures _
+returns-clause-asks g c = asked_usable c.args.self.now c.in_ok-if_usable.ensures.usable _

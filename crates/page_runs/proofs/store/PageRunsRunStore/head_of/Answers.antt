@@ -12,4 +12,4 @@ pub returns-clause-told : goal.returns-clause-told
 returns-clause-told g c = λ faithful t is. c.head_of.ensures t is.shows.listed
 
 pub returns-clause-asks : goal.returns-clause-asks
-returns-clause-asks g c = asked_usable c.args.self.now c.in_ok-if_usable.ensures _
+returns-clause-asks g c = asked_usable c.args.self.now c.in_ok-if_usable.ensures.usable _

@@ -10,7 +10,7 @@ returns-clause-told g c faithful t is =
     c.in_ok-answer.ensures.read faithful shown.name_rows shown.names t.names shown.names_are
 
 pub returns-clause-asks : goal.returns-clause-asks
-returns-clause-asks g c = asked _ _ c.names_under.ensures.reads refl refl refl _ (λ _. c.in_ok-if_usable.ensures)
+returns-clause-asks g c = asked _ _ c.names_under.ensures.reads refl refl refl _ (λ _. c.in_ok-if_usable.ensures.usable)
 
 pub returns-in_err-answer-clause-asks : goal.returns-in_err-answer-clause-asks
 returns-in_err-answer-clause-asks g c = asked _ _ c.names_under.ensures.reads refl refl refl _ (none_answered _ c.from_residual.ensures.0)

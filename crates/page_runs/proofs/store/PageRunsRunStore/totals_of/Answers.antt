@@ -18,4 +18,4 @@ pub returns-clause-columns : goal.returns-clause-columns
 returns-clause-columns g c = c.totals_of.ensures.columns
 
 pub returns-clause-asks : goal.returns-clause-asks
-returns-clause-asks g c = asked_usable c.args.self.now c.in_ok-if_usable.ensures _
+returns-clause-asks g c = asked_usable c.args.self.now c.in_ok-if_usable.ensures.usable _

@@ -37,6 +37,7 @@ loop-line-preserved c =
 
 pub returns : goal.returns
 returns c = record {
+  refused = tt;
   told = λ t was.
       let members = c.args.self.now.members.items in
       let name = c.args.name.now in

@@ -7,6 +7,7 @@ use Rattle.run_lists.proofs.listed.RunLists.run_numbers.Goals as goal
 
 pub returns : goal.returns
 returns c = record {
+  refused = tt;
   told = λ t was.
       let lines = c.args.self.now.runs.items in
       let number = λ (r : RunRow). r.number in

@@ -9,6 +9,7 @@ use Rattle.run_lists.proofs.listed.RunLists.runs.Goals as goal
 
 pub returns : goal.returns
 returns c = record {
+  refused = tt;
   told = λ t was.
       let lines = c.args.self.now.runs.items in
       let items = c.deref-line-items.result.now in
