@@ -1,6 +1,6 @@
 // What the words of a command line say is done, over the files that they name.
 ghost use Rattle.std.specs.Prelude.{IfOk};
-ghost use Rattle.program_stores.specs.Asked.{IsAskedBy, IsJobOf};
+ghost use Rattle.program_stores.specs.Asked.{IsAskedBy, IsLentBy};
 
 use crate::jobs::{Done, Job, Outputs};
 use crate::telling::tell_person;
@@ -80,27 +80,27 @@ fn run_total(rt: &HostRuntime, path: &str) -> io::Result<ExitCode> {
     Ok(ExitCode::from(status))
 }
 
-/// What a plan asks for: the total of a file, or what is done over the store at a path.
+/// What a plan asks for: the total of the file at a path, or a job over the store at one.
 #[derive(Drop)]
 enum Asked<'a> {
     Total(&'a str),
-    Work(&'a str, Work<'a>),
+    Job(&'a str, HeldJob<'a>),
 }
 
-/// What is done over a store, with the commands that it holds.
+/// A job, with the commands that it lends.
 #[derive(Drop)]
-enum Work<'a> {
+enum HeldJob<'a> {
     Run(ListVec<WordsCommand<'a>>),
     Serve(Service),
 }
 
-impl<'a> Work<'a> {
-    fn job(&self) -> Job<'_, 'a>
-        ensures { IsJobOf self.now result }
+impl<'a> HeldJob<'a> {
+    fn lent(&self) -> Job<'_, 'a>
+        ensures { IsLentBy self.now result }
     {
         match self {
-            Work::Run(commands) => Job::Run(commands.as_slice()),
-            Work::Serve(service) => Job::Serve(*service),
+            HeldJob::Run(commands) => Job::Run(commands.as_slice()),
+            HeldJob::Serve(service) => Job::Serve(*service),
         }
     }
 }
@@ -123,11 +123,11 @@ fn asked_of<'a>(alloc: Global, plan: &Plan<'a>) -> Result<Asked<'a>, AllocError>
                 most: *most_bytes as usize,
                 log: *log,
             };
-            Ok(Asked::Work(*db, Work::Serve(service)))
+            Ok(Asked::Job(*db, HeldJob::Serve(service)))
         }
         _ => {
             let (db, commands) = commands_of(alloc, plan)?;
-            Ok(Asked::Work(db, Work::Run(commands)))
+            Ok(Asked::Job(db, HeldJob::Run(commands)))
         }
     }
 }
@@ -159,8 +159,8 @@ pub fn run<S: RunStore + Drop, P: Opener<S>, O: Outputs>(
     let status = match plan(rt.alloc(), words.as_slice()) {
         Ok(plan) => match asked_of(rt.alloc(), &plan) {
             Ok(Asked::Total(path)) => run_total(rt, path),
-            Ok(Asked::Work(db, work)) => {
-                let came_to = work_at::<S, P, O>(rt, outputs, db, work.job());
+            Ok(Asked::Job(db, job)) => {
+                let came_to = work_at::<S, P, O>(rt, outputs, db, job.lent());
                 status_of::<S, P, O::Out>(rt, db, came_to)
             }
             Err(AllocError) => print_refused(rt, "out of memory"),
