@@ -1,11 +1,11 @@
-//! The command line: from its words to a plan.
+//! The command line: from its words to a plan, and the commands that it says.
 #![tactic(auto)]
 
 // Makes a plan of the words.
 mod command;
 // What clap is told of the table of subcommands.
 mod grammar;
-// What the program is told to do.
+// What the program is told to do, and the commands that it says (specs/Commands.antt).
 mod plans;
 // The subcommands and their arguments, as a table.
 mod subcommands;
@@ -13,4 +13,4 @@ mod subcommands;
 mod words;
 
 pub use command::plan;
-pub use plans::{Plan, PlanEnd};
+pub use plans::{Plan, PlanEnd, WordsCommand, commands_of};

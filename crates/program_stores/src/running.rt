@@ -1,13 +1,13 @@
 // What the words of a command line say is done, over the files that they name.
 ghost use Rattle.std.specs.Prelude.{◌≡◌};
-ghost use Rattle.sessions.specs.Commands.{HasCommands};
+ghost use Rattle.command_line.specs.Commands.{HasCommands};
 ghost use Rattle.program_stores.specs.declared.running.Asked.TheVariants as asked;
 
 use crate::jobs::{Done, Job, Outputs};
 use crate::telling::tell_person;
 use crate::works::work_at;
 use anyhow::Result;
-use command_line::{Plan, PlanEnd, plan};
+use command_line::{Plan, PlanEnd, commands_of, plan};
 use file_reading::{
     Beginning, Finding, SeenFile, TotalText, fault_finding, finding_line, total_read,
     unread_finding,
@@ -15,7 +15,7 @@ use file_reading::{
 use prof_http::Service;
 use profile_records::Kind;
 use run_stores::RunStore;
-use sessions::{commands_of, print_total};
+use sessions::print_total;
 use std::alloc::AllocError;
 use std::io::ErrorKind;
 use std::process::ExitCode;
