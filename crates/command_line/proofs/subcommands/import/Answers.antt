@@ -1,7 +1,7 @@
 use Rattle.std.proofs.Common.{codes}
 use Rattle.clap.specs.Words.{found_of, rows_of}
 use Rattle.command_line.proofs.NoPlanLemmas.{without}
-use Rattle.command_line.proofs.command.import.Goals as goal
+use Rattle.command_line.proofs.subcommands.import.Goals as goal
 
 pub returns-in_default-clause-none : goal.returns-in_default-clause-none
 returns-in_default-clause-none c =

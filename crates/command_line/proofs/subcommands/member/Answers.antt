@@ -1,7 +1,7 @@
 use Rattle.clap.specs.Words.{found_of, rows_of}
 use Rattle.command_line.proofs.NoPlanLemmas.{no_member}
 use Rattle.command_line.proofs.PlansLemmas.{on_none}
-use Rattle.command_line.proofs.command.member.Goals as goal
+use Rattle.command_line.proofs.subcommands.member.Goals as goal
 
 pub returns-in_err-name-clause-none : goal.returns-in_err-name-clause-none
 returns-in_err-name-clause-none c =

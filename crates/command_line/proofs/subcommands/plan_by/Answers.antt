@@ -4,7 +4,7 @@ use Rattle.std.specs.Prelude.{string_bytes}
 use Rattle.clap.specs.Words.{app_of, subcommand_rows_of}
 use Rattle.command_line.specs.Plans.{IsEndFound, IsPlannedFor}
 use Rattle.command_line.proofs.CommandLemmas.{both_named, fault_kept, no_plan, plan_for}
-use Rattle.command_line.proofs.command.plan_by.Goals as goal
+use Rattle.command_line.proofs.subcommands.plan_by.Goals as goal
 
 pub returns-in_err-matches-clause-end : goal.returns-in_err-matches-clause-end
 returns-in_err-matches-clause-end c =
