@@ -9,8 +9,8 @@ use Rattle.clap.specs.declared.builder.command.Command.{Command}
 use Rattle.clap.specs.declared.builder.value_parser.ValueParser.{ValueParser}
 use Rattle.command_line.specs.Grammar.{IsCommandLine, TakesKeys, app_with, program, rows, with_row}
 use Rattle.command_line.specs.Table.{app_by, by_default, line_by, row_by, rule_by}
-use Rattle.command_line.specs.declared.subcommands.Argument.{Argument}
-use Rattle.command_line.specs.declared.subcommands.Subcommand.{Subcommand}
+use Rattle.command_line.specs.declared.grammar.Argument.{Argument}
+use Rattle.command_line.specs.declared.grammar.Subcommand.{Subcommand}
 
 -- a command that got one more has got the one that was made
 pub has_got : (made : Result Command AllocError) (all before more : App) → IsOkAnd made (λ one. all ≡ with_subcommand before (app_of one).top) → IfOk made (λ one. app_of one ≡ more)

@@ -84,31 +84,66 @@ membership = operand (codes "NAME") ∷ run_number ∷ []
 abbrev pub calls : List Rule
 calls = database ∷ selection ++ event ∷ object ∷ operand (codes "FUNCTION") ∷ []
 
--- each subcommand with its arguments, in the order in which help lists them
-abbrev pub rows : ValueParser → List (Text × List Rule)
-rows keys =
+-- a subcommand with its arguments
+abbrev pub TableRow : Type 0
+TableRow = Text × List Rule
+
+-- the subcommands that read files, and the one that lists what was imported
+abbrev pub import_rows : List TableRow
+import_rows =
     (codes "total", operand (codes "FILE") ∷ [])
     ∷ (codes "import", database ∷ flag (codes "folded") ∷ several (operand (codes "FILE")) ∷ [])
     ∷ (codes "runs", database ∷ [])
-    ∷ (codes "by", database ∷ selection ++ event ∷ limit ∷ threshold ∷ key keys ∷ [])
+    ∷ []
+
+-- those that report costs
+abbrev pub cost_rows : ValueParser → List TableRow
+cost_rows keys =
+    (codes "by", database ∷ selection ++ event ∷ limit ∷ threshold ∷ key keys ∷ [])
     ∷ (codes "inclusive", database ∷ selection ++ event ∷ [])
-    ∷ (codes "callers", calls)
-    ∷ (codes "callees", calls)
-    ∷ (codes "subtract", database ∷ selection ++ run_option (codes "less-run") ∷ option (codes "less-group") ∷ event ∷ key keys ∷ [])
+    ∷ []
+
+-- those that report calls
+abbrev pub call_rows : List TableRow
+call_rows = (codes "callers", calls) ∷ (codes "callees", calls) ∷ []
+
+-- those that compare costs
+abbrev pub comparison_rows : ValueParser → List TableRow
+comparison_rows keys =
+    (codes "subtract", database ∷ selection ++ run_option (codes "less-run") ∷ option (codes "less-group") ∷ event ∷ key keys ∷ [])
     ∷ (codes "verify", database ∷ selection)
-    ∷ (codes "annotate", database ∷ selection ++ event ∷ annotated ∷ operand (codes "SOURCE") ∷ [])
+    ∷ []
+
+-- those that write costs out in other forms
+abbrev pub export_rows : List TableRow
+export_rows =
+    (codes "annotate", database ∷ selection ++ event ∷ annotated ∷ operand (codes "SOURCE") ∷ [])
     ∷ (codes "csv", database ∷ selection)
     ∷ (codes "folded", database ∷ selection)
-    ∷ (codes "group", database ∷ flag (codes "drop") ∷ operand (codes "NAME") ∷ [])
+    ∷ []
+
+-- those about groups
+abbrev pub group_rows : List TableRow
+group_rows =
+    (codes "group", database ∷ flag (codes "drop") ∷ operand (codes "NAME") ∷ [])
     ∷ (codes "join", database ∷ membership)
     ∷ (codes "leave", database ∷ membership)
     ∷ (codes "baseline", database ∷ membership)
     ∷ (codes "groups", database ∷ [])
-    ∷ (codes "remove", database ∷ several run_number ∷ [])
+    ∷ []
+
+-- those that remove runs from a store, or serve it
+abbrev pub upkeep_rows : List TableRow
+upkeep_rows =
+    (codes "remove", database ∷ several run_number ∷ [])
     ∷ (codes "serve", database ∷ port ∷ requests ∷ most_bytes ∷ flag (codes "log") ∷ [])
     ∷ []
 
--- a subcommand with its arguments
+-- all of them, in the order in which help lists them
+abbrev pub rows : ValueParser → List TableRow
+rows keys = import_rows ++ cost_rows keys ++ call_rows ++ comparison_rows keys ++ export_rows ++ group_rows ++ upkeep_rows
+
+-- such a subcommand
 abbrev pub app_with : Text → List Rule → App
 app_with name rules = on_top (λ s. record s { rules = rules }) (new_app name)
 
@@ -118,7 +153,7 @@ abbrev pub program : App
 program = on_top (λ s. record s { has_version = true; subcommand_required = true }) (new_app (codes "profhouse"))
 
 -- a command with one more subcommand
-abbrev pub with_row : App → Text × List Rule → App
+abbrev pub with_row : App → TableRow → App
 with_row a row = with_subcommand a (app_with row.0 row.1).top
 
 abbrev pub command_line : ValueParser → App

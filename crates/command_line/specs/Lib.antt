@@ -1,3 +1,4 @@
+pub mod Commands
 pub mod Grammar
 pub mod Plans
 pub mod Table

@@ -4,12 +4,12 @@ use Rattle.clap.specs.Words.{App, Rule, Text}
 use Rattle.clap.specs.declared.builder.value_parser.ValueParser.{ValueParser}
 use Rattle.clap.specs.declared.builder.value_parser.ValueParser.TheVariants.{Signed}
 use Rattle.std.specs.Borrow.{Bor}
-use Rattle.command_line.specs.declared.subcommands.Argument.{Argument}
-use Rattle.command_line.specs.declared.subcommands.Form.{Form}
-use Rattle.command_line.specs.declared.subcommands.Form.TheVariants as forms
-use Rattle.command_line.specs.declared.subcommands.Subcommand.{Subcommand}
-use Rattle.command_line.specs.declared.subcommands.Takes.{Takes}
-use Rattle.command_line.specs.declared.subcommands.Takes.TheVariants as takes
+use Rattle.command_line.specs.declared.grammar.Argument.{Argument}
+use Rattle.command_line.specs.declared.grammar.Form.{Form}
+use Rattle.command_line.specs.declared.grammar.Form.TheVariants as forms
+use Rattle.command_line.specs.declared.grammar.Subcommand.{Subcommand}
+use Rattle.command_line.specs.declared.grammar.Takes.{Takes}
+use Rattle.command_line.specs.declared.grammar.Takes.TheVariants as takes
 use Rattle.command_line.specs.Grammar.{app_with, flag, operand, option, program, several, with_row}
 
 abbrev pub formed : Form → Text → Rule

@@ -1,15 +1,12 @@
-// The grammar of the command line: what clap is told of the table of subcommands.
-ghost use Rattle.std.specs.Prelude.{◌≡◌, drop, false, flat_map, map, take, IfOk, IsOkAnd};
+// The grammar of the command line: what the table of subcommands is made of, and what clap is told of it.
+ghost use Rattle.std.specs.Prelude.{◌≡◌, false, flat_map, map, IfOk, IsOkAnd};
 ghost use Rattle.clap.specs.declared.builder.value_parser.ValueParser.{ValueParser};
 ghost use Rattle.clap.specs.Words.{app_of, rule_of, with_subcommand};
 ghost use Rattle.clap.specs.declared.builder.command.Command.TheViews.{out-Command as fields_of};
 ghost use Rattle.command_line.specs.Grammar as line;
 ghost use Rattle.command_line.specs.Table as table;
 
-use crate::subcommands::{
-    Argument, CALLS, COMPARISONS, COSTS, EXPORTS, Form, GROUPS, IMPORTS, KEYS, Subcommand, Takes,
-    UPKEEP,
-};
+use crate::subcommands::{CALLS, COMPARISONS, COSTS, EXPORTS, GROUPS, IMPORTS, UPKEEP};
 use clap::builder::ValueParser;
 use clap::{Arg, ArgAction, Command};
 use std::alloc::{AllocError, Global};
@@ -20,6 +17,66 @@ const VERSION: &str = "0.1.0";
 /// What help says of terminals.
 const ON_TERMINALS: &str =
     "Where the standard error is a terminal, it says why a store or a file is refused.";
+
+/// The greatest number of a run.
+pub const LAST_RUN: u32 = 2_147_483_647;
+
+/// The most requests that are answered before the program ends.
+pub const MOST_REQUESTS: u32 = 1_000_000;
+
+/// The most bytes that an answer may have, where that is said.
+pub const MOST_BYTES: u32 = 4_294_967_295;
+
+/// What a threshold is a part of, in percent.
+pub const MAX_PERCENT: u8 = 100;
+
+/// The words of keys.
+static KEYS: [&str; 5] = ["object", "file", "function", "line", "thread"];
+
+/// How an argument stands on a command line.
+#[derive(Clone, Copy)]
+pub enum Form {
+    /// A flag, by its long name.
+    Flag,
+    /// An option, by its long name; help calls its value by this name.
+    Option(&'static str),
+    /// An option that has to be given.
+    Required(&'static str),
+    /// A word that has to be given.
+    Operand,
+    /// Such a word, once or more.
+    Operands,
+}
+
+/// Which words an argument takes.
+#[derive(Clone, Copy)]
+pub enum Takes {
+    /// Any.
+    Texts,
+    /// Those of the numbers from the least to the greatest.
+    Numbers(u32, u32),
+    /// Those of keys.
+    Keys,
+}
+
+/// An argument of a subcommand.
+#[derive(Clone, Copy)]
+pub struct Argument {
+    pub id: &'static str,
+    pub form: Form,
+    pub takes: Takes,
+    pub default: Option<&'static str>,
+    pub help: &'static str,
+}
+
+/// A subcommand. Its help says what it is about, and ends with an example.
+#[derive(Clone, Copy)]
+pub struct Subcommand {
+    pub name: &'static str,
+    pub about: &'static str,
+    pub example: &'static str,
+    pub arguments: &'static [Argument],
+}
 
 /// What clap is told of how an argument stands on a command line.
 fn formed<'a>(alloc: Global, argument: Argument) -> Arg<'a>
@@ -135,49 +192,49 @@ fn keys<'a>() -> ValueParser<'a>
 
 /// The first table, as a list.
 fn imports() -> &'static [Subcommand]
-    ensures { (keys : ValueParser) → map (table.row_by keys) result.now ≡ take 3 (line.rows keys) }
+    ensures { (keys : ValueParser) → map (table.row_by keys) result.now ≡ line.import_rows }
 {
     IMPORTS.as_slice()
 }
 
 /// The table of costs, as a list.
 fn costs() -> &'static [Subcommand]
-    ensures { (keys : ValueParser) → map (table.row_by keys) result.now ≡ take 2 (drop 3 (line.rows keys)) }
+    ensures { (keys : ValueParser) → map (table.row_by keys) result.now ≡ line.cost_rows keys }
 {
     COSTS.as_slice()
 }
 
 /// The table of calls, as a list.
 fn calls() -> &'static [Subcommand]
-    ensures { (keys : ValueParser) → map (table.row_by keys) result.now ≡ take 2 (drop 5 (line.rows keys)) }
+    ensures { (keys : ValueParser) → map (table.row_by keys) result.now ≡ line.call_rows }
 {
     CALLS.as_slice()
 }
 
 /// The table of comparisons, as a list.
 fn comparisons() -> &'static [Subcommand]
-    ensures { (keys : ValueParser) → map (table.row_by keys) result.now ≡ take 2 (drop 7 (line.rows keys)) }
+    ensures { (keys : ValueParser) → map (table.row_by keys) result.now ≡ line.comparison_rows keys }
 {
     COMPARISONS.as_slice()
 }
 
 /// The table of exports, as a list.
 fn exports() -> &'static [Subcommand]
-    ensures { (keys : ValueParser) → map (table.row_by keys) result.now ≡ take 3 (drop 9 (line.rows keys)) }
+    ensures { (keys : ValueParser) → map (table.row_by keys) result.now ≡ line.export_rows }
 {
     EXPORTS.as_slice()
 }
 
 /// The table of groups, as a list.
 fn groups() -> &'static [Subcommand]
-    ensures { (keys : ValueParser) → map (table.row_by keys) result.now ≡ take 5 (drop 12 (line.rows keys)) }
+    ensures { (keys : ValueParser) → map (table.row_by keys) result.now ≡ line.group_rows }
 {
     GROUPS.as_slice()
 }
 
 /// The last table, as a list.
 fn upkeep() -> &'static [Subcommand]
-    ensures { (keys : ValueParser) → map (table.row_by keys) result.now ≡ drop 17 (line.rows keys) }
+    ensures { (keys : ValueParser) → map (table.row_by keys) result.now ≡ line.upkeep_rows }
 {
     UPKEEP.as_slice()
 }

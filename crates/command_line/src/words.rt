@@ -5,7 +5,7 @@ ghost use Rattle.command_line.specs.Plans.{IsByteCount, IsLimit, IsPort, IsReque
 ghost use Rattle.command_line.specs.Plans.{HasWord, HasWords, HasNumber, HasRun, HasRuns, HaveRuns, IsFlag, NamesBoth, NoneIs, SaysNumber};
 ghost use Rattle.command_line.specs.Plans.{HasSelection, HasSelectionBy, HasLess};
 
-use crate::subcommands::{LAST_RUN, MAX_PERCENT, MOST_BYTES, MOST_REQUESTS};
+use crate::grammar::{LAST_RUN, MAX_PERCENT, MOST_BYTES, MOST_REQUESTS};
 use cg_text::ListVec;
 use clap::ArgMatches;
 use cost_rows::Key;

@@ -36,12 +36,6 @@ index_of is.Threshold = 10
 abbrev pub names_of : Place → List Name
 names_of at.CallgrindRuns = is.Label ∷ []
 names_of at.FoldedRuns = is.Label ∷ []
-names_of at.Runs = []
-names_of at.Groups = []
-names_of at.OneRun = []
-names_of at.OneGroup = []
-names_of at.Member = []
-names_of at.Baseline = []
 names_of (at.Report by) = is.Event ∷ is.Run ∷ is.Group ∷ is.Limit ∷ is.Threshold ∷ []
 names_of at.Inclusive = is.Event ∷ is.Run ∷ is.Group ∷ []
 names_of (at.Calls of) = is.Event ∷ is.Function ∷ is.Object ∷ is.Run ∷ is.Group ∷ []
@@ -50,6 +44,7 @@ names_of (at.Subtract by) = is.Event ∷ is.Run ∷ is.Group ∷ is.LessRun ∷ 
 names_of at.Verify = is.Run ∷ is.Group ∷ []
 names_of at.Csv = is.Run ∷ is.Group ∷ []
 names_of at.Folded = is.Run ∷ is.Group ∷ []
+names_of place = []
 
 -- the name of this text, in just these letters
 abbrev pub name_in : List Name → List ℕ → Option Name

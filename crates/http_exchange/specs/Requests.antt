@@ -21,19 +21,7 @@ abbrev pub body_limit : ℕ → Place → Option ℕ
 body_limit limit at.CallgrindRuns = Some limit
 body_limit limit at.FoldedRuns = Some limit
 body_limit limit at.Annotate = Some 16777216
-body_limit limit at.Runs = None
-body_limit limit at.Groups = None
-body_limit limit at.OneRun = None
-body_limit limit at.OneGroup = None
-body_limit limit at.Member = None
-body_limit limit at.Baseline = None
-body_limit limit (at.Report by) = None
-body_limit limit at.Inclusive = None
-body_limit limit (at.Calls of) = None
-body_limit limit (at.Subtract by) = None
-body_limit limit at.Verify = None
-body_limit limit at.Csv = None
-body_limit limit at.Folded = None
+body_limit limit place = None
 
 -- the length of the body, by the names and values of the fields
 abbrev pub length_in : Option ℕ → List (List ℕ × List ℕ) → Result ℕ Failing

@@ -7,20 +7,15 @@ ghost use Rattle.http_exchange.specs.Heads.{IsHeadAt};
 ghost use Rattle.http_exchange.specs.Requests as spec;
 ghost use Rattle.http_exchange.specs.Routes.{routes};
 
-use crate::asked::{PathCommand, asked_at};
 use crate::failings::Failing;
 use crate::lengths::body_length;
-use crate::names::names;
 use crate::parameters::read_query;
-use crate::places::{Place, method_in};
+use crate::places::{PathCommand, Place, asked_at, body_limit, method_in, names};
 use crate::routing::find_place;
 use crate::texts::path_and_query;
 use httparse::spans::{HeaderSpan, RequestSpans};
 use matchit::Router;
 use std::alloc::Global;
-
-/// How many bytes the source of an annotated file has at most.
-pub const SOURCE_LIMIT: u64 = 16_777_216;
 
 /// What a request asks for, and how many bytes its body has: those behind its head, none where no body
 /// is read.
@@ -28,30 +23,6 @@ pub const SOURCE_LIMIT: u64 = 16_777_216;
 pub struct Request {
     pub asked: PathCommand,
     pub length: u64,
-}
-
-/// How many bytes a body has at most, where files have at most `limit`; `None` where no body is read.
-fn body_limit(limit: u64, place: Place) -> Option<u64>
-    ensures { result ≡ spec.body_limit limit place }
-{
-    match place {
-        Place::CallgrindRuns => Some(limit),
-        Place::FoldedRuns => Some(limit),
-        Place::Annotate => Some(SOURCE_LIMIT),
-        Place::Runs => None,
-        Place::Groups => None,
-        Place::OneRun => None,
-        Place::OneGroup => None,
-        Place::Member => None,
-        Place::Baseline => None,
-        Place::Report(_) => None,
-        Place::Inclusive => None,
-        Place::Calls(_) => None,
-        Place::Subtract(_) => None,
-        Place::Verify => None,
-        Place::Csv => None,
-        Place::Folded => None,
-    }
 }
 
 /// What is asked by a method and a target, and where: the path, the method, the parameters.

@@ -3,8 +3,6 @@
 //! written. The clients of a port wait beside each other, so that one which sends nothing holds up nobody.
 #![tactic(auto)]
 
-// What a request asks for (specs/Asked.antt).
-mod asked;
 // The body of a request (specs/Bodies.antt).
 mod bodies;
 // The checks that a request can fail before its command (specs/Failings.antt).
@@ -13,13 +11,13 @@ mod failings;
 mod heads;
 // The length of a body (specs/Lengths.antt).
 mod lengths;
-// The names of parameters, and which of them a place takes (specs/Parameters.antt).
+// The names of parameters (specs/Parameters.antt).
 mod names;
 // Decimal numbers of a request (specs/Numbers.antt).
 mod numbers;
 // The parameters of a target (specs/Parameters.antt).
 mod parameters;
-// The paths of the table of routes, and their methods (specs/Places.antt).
+// The table of routes, and what is asked there (specs/Places.antt, specs/Asked.antt).
 mod places;
 // The head of a request is read (specs/Received.antt).
 mod receiving;
@@ -42,15 +40,14 @@ mod connection;
 // A client that waits.
 mod waiting;
 
-pub use asked::PathCommand;
 pub use bodies::{Body, body_comes};
-pub use checks::{Request, SOURCE_LIMIT, read_request};
+pub use checks::{Request, read_request};
 pub use clients::{Client, Clients};
 pub use connection::Connection;
 pub use failings::Failing;
 pub use heads::{FIELD_LIMIT, HEAD_LIMIT, Head, find_head};
 pub use http::StatusCode;
-pub use places::{Method, Place};
+pub use places::{Method, PathCommand, Place, SOURCE_LIMIT};
 pub use receiving::{HeadEnd, read_head};
 pub use responses::{RESPONSE_HEAD_ROOM, put_head};
 pub use routing::routes;

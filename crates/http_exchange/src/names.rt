@@ -1,8 +1,6 @@
-// The names of parameters, and which of them a place takes (specs/Parameters.antt).
+// The names of parameters (specs/Parameters.antt).
 ghost use Rattle.std.specs.Prelude.{◌≡◌, ◌<◌};
 ghost use Rattle.http_exchange.specs.Parameters as spec;
-
-use crate::places::Place;
 
 /// The name of a parameter.
 #[derive(Clone, Copy, Debug, PartialEq, Eq)]
@@ -58,48 +56,6 @@ impl Name {
             Name::Limit => 9,
             Name::Threshold => 10,
         }
-    }
-}
-
-/// The names of the parameters that a place takes.
-pub(crate) fn names(place: Place) -> &'static [Name]
-    ensures { result.now ≡ spec.names_of place }
-{
-    match place {
-        Place::CallgrindRuns => &[Name::Label],
-        Place::FoldedRuns => &[Name::Label],
-        Place::Runs => &[],
-        Place::Groups => &[],
-        Place::OneRun => &[],
-        Place::OneGroup => &[],
-        Place::Member => &[],
-        Place::Baseline => &[],
-        Place::Report(_) => &[
-            Name::Event,
-            Name::Run,
-            Name::Group,
-            Name::Limit,
-            Name::Threshold,
-        ],
-        Place::Inclusive => &[Name::Event, Name::Run, Name::Group],
-        Place::Calls(_) => &[
-            Name::Event,
-            Name::Function,
-            Name::Object,
-            Name::Run,
-            Name::Group,
-        ],
-        Place::Annotate => &[Name::Event, Name::File, Name::Run, Name::Group],
-        Place::Subtract(_) => &[
-            Name::Event,
-            Name::Run,
-            Name::Group,
-            Name::LessRun,
-            Name::LessGroup,
-        ],
-        Place::Verify => &[Name::Run, Name::Group],
-        Place::Csv => &[Name::Run, Name::Group],
-        Place::Folded => &[Name::Run, Name::Group],
     }
 }
 

@@ -3,7 +3,7 @@ use Rattle.std.specs.Prelude.{◌≡◌, map, Some}
 use Rattle.command_line.specs.declared.plans.Plan.{Plan}
 use Rattle.command_line.specs.declared.plans.Plan.TheVariants as plans
 use Rattle.requests.specs.Plain.{plain_request}
-use Rattle.sessions.specs.Commands.{HasCommands, commands_by, store_of}
+use Rattle.command_line.specs.Commands.{HasCommands, commands_by, store_of}
 use Rattle.program_stores.specs.declared.jobs.Job.{Job}
 use Rattle.program_stores.specs.declared.jobs.Job.TheVariants as jobs
 use Rattle.program_stores.specs.declared.running.Asked.{Asked}

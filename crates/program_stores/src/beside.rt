@@ -6,10 +6,11 @@ ghost use Rattle.program_stores.specs.declared.jobs.Job.TheVariants as jobs;
 
 use crate::jobs::{Done, Job, Outputs};
 use crate::telling::tell_remarks;
+use command_line::WordsCommand;
 use file_disks::{IfStands, Standing};
 use requests::Command;
 use run_stores::RunStore;
-use sessions::{WordsCommand, work_over};
+use sessions::work_over;
 use std::fs;
 use std::fs::File;
 use std::io::Read;

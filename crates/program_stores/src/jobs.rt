@@ -4,8 +4,8 @@ ghost use Rattle.std.specs.List.{list_all};
 ghost use Rattle.program_stores.specs.Jobs as specs;
 ghost use Rattle.requests.specs.Plain.{only_reads};
 
+use command_line::WordsCommand;
 use prof_http::Service;
-use sessions::WordsCommand;
 use std::io;
 use std::io::Write;
 

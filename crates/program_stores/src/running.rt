@@ -7,7 +7,7 @@ use crate::telling::tell_person;
 use crate::works::work_at;
 use anyhow::Result;
 use cg_text::ListVec;
-use command_line::{Plan, PlanEnd, plan};
+use command_line::{Plan, PlanEnd, WordsCommand, commands_of, plan};
 use file_reading::{
     Beginning, Finding, SeenFile, TotalText, fault_finding, finding_line, total_read,
     unread_finding,
@@ -15,7 +15,7 @@ use file_reading::{
 use prof_http::Service;
 use profile_records::Kind;
 use run_stores::RunStore;
-use sessions::{WordsCommand, commands_of, print_total};
+use sessions::print_total;
 use std::alloc::{AllocError, Global};
 use std::io::ErrorKind;
 use std::process::ExitCode;

@@ -1,4 +1,3 @@
-pub mod Commands
 pub mod Remarks
 pub mod Sessions
 pub mod Works

@@ -2,8 +2,6 @@
 //! and the total of a file.
 #![tactic(auto)]
 
-// The commands that a plan says (specs/Commands.antt).
-mod commands;
 // What a person is told of files (specs/Remarks.antt).
 mod remarks;
 // Runs commands over a store, and prints each answer (specs/Sessions.antt, specs/Works.antt).
@@ -11,7 +9,6 @@ mod session;
 // The total of a file is printed (specs/Works.antt).
 mod totals;
 
-pub use commands::{WordsCommand, commands_of};
 pub use remarks::Remark;
 pub use session::work_over;
 pub use totals::print_total;

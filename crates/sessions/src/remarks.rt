@@ -3,7 +3,7 @@ ghost use Rattle.std.specs.Prelude.{◌≡◌};
 ghost use Rattle.requests.specs.Plain.{plain_request};
 ghost use Rattle.sessions.specs.Remarks as spec;
 
-use crate::commands::WordsCommand;
+use command_line::WordsCommand;
 use file_reading::{Beginning, Finding, SeenFile, fault_finding, unread_finding};
 use histories::{Answer, Refusal};
 use profile_records::Kind;

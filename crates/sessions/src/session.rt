@@ -12,9 +12,9 @@ ghost use Rattle.sessions.specs.Works.{WerePrinted};
 ghost use Rattle.std.specs.Result.{result_and};
 ghost use Rattle.warehouse.specs.Taken.{CameTo};
 
-use crate::commands::WordsCommand;
 use crate::remarks::{Remark, keep_remark};
 use byte_io::write_text;
+use command_line::WordsCommand;
 use cost_exports::{CellSums, Unwritten, write_csv};
 use file_reading::SeenFile;
 use histories::{Answer, Limits, Refusal};
