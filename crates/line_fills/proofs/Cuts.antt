@@ -3,8 +3,11 @@ use Rattle.std.proofs.Common.{◌≡◌, ℕ, ◌+◌, List, [], ◌∷◌, ◌+
 use Rattle.std.proofs.lemmas.List.{drop-append-le, get_or-map, length-map, map-append, take-append-le, take_all}
 use Rattle.std.proofs.lemmas.List.Sums.{sum_by-cons}
 use Rattle.std.proofs.lemmas.List.Elements.{All-append, All-cons, All-nil}
+use Rattle.std.specs.Borrow.{Bor}
 use Rattle.sqlite_record.specs.Record.{decode}
+use Rattle.sqlite_trees.proofs.ListLemmas.{map-map}
 use Rattle.sqlite_value.specs.Order.{Row}
+use Rattle.page_edits.specs.Places.{entries_given}
 use Rattle.line_fills.specs.Records.{AreRecordsOf, IsWritable, cut}
 
 pub cut-append : (bytes more lengths : List ℕ) → sum lengths ≡ length bytes → cut (bytes ++ more) (lengths ++ length more ∷ []) ≡ cut bytes lengths ++ more ∷ []
@@ -26,3 +29,7 @@ one_written rows records row bytes was is writable = record {
 pub all_shown : {X Y : Type 0} (show : X → Y) (P : Y → Type 0) (xs : List X) (ys : List Y) → map show xs ≡ ys → All P ys → All (λ x. P (show x)) xs
 all_shown show P xs ys same all = λ k d low.
     subst P (ap (λ l. get_or l k (show d)) (sym same) ∙ get_or-map show xs k d (show d) low) (all k (show d) (omega (arith, low, ap length same, length-map xs show)))
+
+-- records that are lent as entries are those of their rows
+pub entries_shown : (entries : List (Bor (List ℕ))) (records : List (List ℕ)) (rows : List Row) → map (λ (entry : Bor (List ℕ)). entry.now) entries ≡ records → map decode records ≡ rows → entries_given entries ≡ rows
+entries_shown entries records rows lent are = sym (map-map decode (λ (entry : Bor (List ℕ)). entry.now) entries) ∙ ap (map decode) lent ∙ are

@@ -58,10 +58,15 @@ module _ {D : Type 0} {g : Ghosts D} (shape : Shape) (root : ℕ) (place : Place
   pub none_placed : (file : PageFile D g) → HasPlaced file file []
   none_placed file faithful wanted roots was now t w is none = subst (λ trees. Writes wanted roots was trees file) (sym (with_itself now t)) w
 
-  module _ (old mid new : PageFile D g) (k : Keeps (state mid.pool) (state new.pool)) (front back : List Row) (first : HasPlaced old mid front) where
+  module _ (old mid new : PageFile D g) (k : Keeps (state mid.pool) (state new.pool)) (front : List Row) (first : HasPlaced old mid front) where
+    -- what then comes of any trees
+    pub after_placed : (Fact : Type 0) → AtTree mid new shape root (λ wanted roots was now t. reals_at wanted t ≡ 0 → Fact) → AtTree old new shape root (λ wanted roots was now t. reals_at wanted t ≡ 0 → Fact)
+    after_placed Fact so faithful wanted roots was now t w is none =
+        so faithful wanted roots was (with_tree now t (place_all place front (now t))) t (first (k.stays.clean faithful) wanted roots was now t w is none) is none
+
     -- and then more of them
-    pub more_placed : HasPlaced mid new back → HasPlaced old new (front ++ back)
-    more_placed second faithful wanted roots was now t w is none =
+    pub more_placed : (back : List Row) → HasPlaced mid new back → HasPlaced old new (front ++ back)
+    more_placed back second faithful wanted roots was now t w is none =
         let middle = with_tree now t (place_all place front (now t)) in
         let there : middle t ≡ place_all place front (now t) = with_same now t (place_all place front (now t)) in
         let rows : place_all place back (middle t) ≡ place_all place (front ++ back) (now t) = ap (place_all place back) there ∙ sym (place_all-append place front back (now t)) in

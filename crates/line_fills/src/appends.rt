@@ -23,28 +23,6 @@ use std::alloc::Global;
 /// How many rows or entries are handed to the pages at once.
 const BATCH: usize = 256;
 
-/// Puts the rows of some lines into the table under a root page.
-fn append_batch<D: Disk, L: PageLine>(
-    file: &mut PageFile<D>,
-    alloc: Global,
-    root: u32,
-    first: u64,
-    lines: &[L],
-) -> Result<(), StoreError>
-    requires room { HaveRowids first lines.now }
-    ensures done { PlacesAll file.old file.new Shape.Table root put_row (numbered first (map L.columns lines.now))
-        (HaveRecords (map L.columns lines.now)) result }
-    ensures usable { OnOk result (IsUsable file.new) }
-    ensures keeps { Keeps (pools.state file.old.pool) (pools.state file.new.pool) }
-{
-    let records = row_records(alloc, lines)?;
-    let rows = records.rows(alloc, first)?;
-    match file.append(alloc, root, rows.as_slice()) {
-        Ok(()) => Ok(()),
-        Err(error) => Err(error_of(error)),
-    }
-}
-
 /// Puts the rows of lines, which are numbered from `first` on, into the table under a root page.
 pub(crate) fn append_rows<D: Disk, L: PageLine>(
     file: &mut PageFile<D>,
@@ -62,35 +40,14 @@ pub(crate) fn append_rows<D: Disk, L: PageLine>(
     let mut done = 0;
     while done < lines.len() {
         let end = lines.len().min(done + BATCH);
-        append_batch(file, alloc, root, first + done as u64, &lines[done..end])?;
-        done = end;
+        let records = row_records(alloc, &lines[done..end])?;
+        let rows = records.rows(alloc, first + done as u64)?;
+        match file.append(alloc, root, rows.as_slice()) {
+            Ok(()) => done = end,
+            Err(error) => return Err(error_of(error)),
+        }
     }
     Ok(())
-}
-
-/// Inserts the entries of the lines at some places into an index.
-fn insert_batch<D: Disk, L: PageLine>(
-    file: &mut PageFile<D>,
-    alloc: Global,
-    index: &IndexPlace<'_>,
-    first: u64,
-    lines: &[L],
-    places: &[u32],
-) -> Result<(), StoreError>
-    requires room { HaveRowids first lines.now }
-    requires within { ArePlacesOf lines.now places.now }
-    ensures done { PlacesAll file.old file.new (Shape.Index plain) index.now.root (insert_entry plain)
-        (entries_at index.now.columns.now first (map L.columns lines.now) places.now)
-        (HaveRecords (entries_at index.now.columns.now first (map L.columns lines.now) places.now)) result }
-    ensures usable { OnOk result (IsUsable file.new) }
-    ensures keeps { Keeps (pools.state file.old.pool) (pools.state file.new.pool) }
-{
-    let records = entry_records(alloc, index.columns, first, lines, places)?;
-    let entries = records.slices(alloc)?;
-    match file.append_entries(alloc, index.root, Order::PLAIN, entries.as_slice()) {
-        Ok(()) => Ok(()),
-        Err(error) => Err(error_of(error)),
-    }
 }
 
 /// Inserts the entries of the lines at these places, one after another, into an index.
@@ -113,8 +70,12 @@ fn insert_entries<D: Disk, L: PageLine>(
     let mut done = 0;
     while done < places.len() {
         let end = places.len().min(done + BATCH);
-        insert_batch(file, alloc, index, first, lines, &places[done..end])?;
-        done = end;
+        let records = entry_records(alloc, index.columns, first, lines, &places[done..end])?;
+        let entries = records.slices(alloc)?;
+        match file.append_entries(alloc, index.root, Order::PLAIN, entries.as_slice()) {
+            Ok(()) => done = end,
+            Err(error) => return Err(error_of(error)),
+        }
     }
     Ok(())
 }
