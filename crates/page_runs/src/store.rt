@@ -1,5 +1,5 @@
 // A store of runs over the pages of its file.
-ghost use Rattle.std.specs.Prelude.{◌≡◌, ¬◌, length, IsTrue, Ok, IfErr, IfOk, OnOk};
+ghost use Rattle.std.specs.Prelude.{◌≡◌, length, IsTrue, Ok, IfErr, IfOk, OnOk};
 ghost use Rattle.sqlite_wal.specs.Files.{outcomes, seen_image};
 ghost use Rattle.sqlite_wal.specs.Reads.{AreClean};
 ghost use Rattle.page_files.specs.Files.{page_size, IsUsable, may_leave as files_may_leave};
