@@ -147,10 +147,10 @@ pub fn rows_of_changes(alloc: Global) -> Result<(), Fail> {
 }
 
 /// The limits of the program, but for the length of a file.
-fn of_bytes(bytes: u64) -> Limits {
+fn of_bytes(bytes: u16) -> Limits {
     let standard = Limits::standard();
     Limits {
-        bytes,
+        bytes: u64::from(bytes),
         runs: standard.runs,
         groups: standard.groups,
         numbers: standard.numbers,
