@@ -6,8 +6,8 @@ use Rattle.run_stores.proofs.Calls.{asked_stands, become_at, changed_as, given_a
 use Rattle.plain_tables.specs.Changes as tables
 use Rattle.plain_tables.specs.Labels.{IsGroupName}
 use Rattle.plain_tables.specs.Tables.{Tables}
-use Rattle.histories.specs.History.{History, Remove, MakeGroup, groups, with_step}
-use Rattle.histories.specs.Legal.{IsHistory, IsInForm, IsLegal, expected_answer, when, first_or, has_run, has_group}
+use Rattle.histories.specs.History.{History, Remove, MakeGroup, with_step}
+use Rattle.histories.specs.Legal.{IsHistory, IsInForm, IsLegal, expected_answer, when, first_or, has_run}
 use Rattle.histories.specs.Representation.{TablesRepresent}
 use Rattle.histories.specs.declared.answers.Answer.{Answer}
 use Rattle.histories.specs.declared.answers.Answer.TheVariants as answers

@@ -1,62 +1,42 @@
--- A file that was inserted.
-use Rattle.std.proofs.Common.{◌≡◌, ◌∙◌, ℕ, nat_le, length, Bool, true, List, [], ◌∷◌, Some, None, Result, Ok, Err, Option, refl, inl, sym, ap, subst, arith}
-use Rattle.std.specs.Result.{is_ok}
-use Rattle.plain_tables.specs.declared.errors.StoreError.{StoreError}
-use Rattle.histories.specs.Formats.{today}
-use Rattle.histories.specs.declared.answers.Answer.{Answer}
-use Rattle.run_stores.specs.declared.states.StoreState.{Ghosts}
+-- What a file that was read is answered, and what becomes of a store into which it is put.
+use Rattle.std.proofs.Common.{◌≡◌, ◌∙◌, ℕ, nat_le, length, false, List, Some, None, Result, Ok, Err, Option, refl, inl, sym, ap, subst, subst₂}
+use Rattle.sha2.specs.Sha256.{sha256}
+use Rattle.cg_text.specs.declared.faults.Fault.{Fault}
 use Rattle.cg_formulas.specs.declared.heads.FileHead.{FileHead}
 use Rattle.cost_rows.specs.Content.{Content}
 use Rattle.cost_rows.specs.Rows.{content_of}
 use Rattle.cost_rows.specs.declared.file_rows.FileRows.{FileRows}
-use Rattle.run_stores.specs.Calls.{Asked, Become, Changed, Given, Represents}
-use Rattle.run_stores.proofs.Calls.{asked_stands, become_at, changed_as, changed_soundly, changed_then, given_at}
 use Rattle.plain_tables.specs.Sound.{AreSound}
 use Rattle.plain_tables.specs.Tables.{Tables}
-use Rattle.run_stores.specs.BookRuns.{with_file}
+use Rattle.run_stores.specs.declared.summed.SummedFile.{SummedFile}
+use Rattle.run_stores.specs.Lookups.{IsRunOf}
+use Rattle.run_stores.specs.Runs.{with_summed}
 use Rattle.profile_records.specs.declared.kinds.Kind.{Kind}
-use Rattle.byte_io.specs.Outcomes.{Outcome, Gave, bytes_of}
-use Rattle.histories.specs.History.{History, Import, next, with_step}
-use Rattle.histories.specs.Legal.{expected_answer, IsInForm, IsLegal}
+use Rattle.byte_io.specs.Outcomes.{Outcome, bytes_of}
+use Rattle.byte_io.specs.Reads.{HasEnded}
+use Rattle.file_reading.specs.FileParsers.{IsFileOf, IsParsedOf}
+use Rattle.file_reading.specs.declared.parser.ParsedFile.{ParsedFile}
+use Rattle.histories.specs.Formats.{today}
+use Rattle.histories.specs.History.{History, Import, held, next, with_step}
+use Rattle.histories.specs.Legal.{expected_answer, number_of, IsInForm}
 use Rattle.histories.specs.Representation.{TablesRepresent}
-use Rattle.histories.specs.declared.answers.Answer.TheVariants.{Run}
+use Rattle.histories.specs.declared.answers.Answer.{Answer}
+use Rattle.histories.specs.declared.answers.Answer.TheVariants.{Run, Refused}
 use Rattle.histories.specs.declared.limits.Limits.{Limits}
 use Rattle.histories.specs.declared.answers.Refusal.{Refusal}
-use Rattle.histories.proofs.Put.{tell_insert}
-use Rattle.histories.specs.Answered.{has_changed, Follows, RepresentsHistory, WasExpected}
+use Rattle.histories.specs.Answered.{is_accepted}
 use Rattle.histories.specs.Refusals.{refused_or}
-use Rattle.histories.proofs.ExpectedLeft.{told_stands}
-use Rattle.byte_io.specs.Reads.{HasEnded}
-use Rattle.store_commands.specs.FromTables.{IsNumber}
+use Rattle.histories.proofs.Put.{tell_insert}
+use Rattle.histories.proofs.Tells.{tells_digest}
+use Rattle.store_commands.specs.FromTables.{AnswersUnchanged, GetsNumber, IsImported, IsKnown, IsNumber, TakesIn}
 use Rattle.store_commands.specs.Refused.{no_room, number_unless, room_refusal}
-use Rattle.store_commands.proofs.Imports.{number_told, room_expected}
-use Rattle.store_commands.specs.Imports.{IsNewFile}
+use Rattle.store_commands.proofs.Imports.{fault_expected, held_expected, number_told, room_expected}
 
-module _ (limits : Limits) (h : History) (kind : Kind) (label : List ℕ) (outcomes : List Outcome) (digest : List ℕ) (head : FileHead) (rows : FileRows) (t : Tables)
-    (form : IsInForm (Import (today kind) label outcomes)) (is : expected_answer limits h (Import (today kind) label outcomes) ≡ Some (Run t.next)) (new : IsNewFile h kind (bytes_of outcomes) digest head rows) (was : AreSound t) (represent : TablesRepresent h t) where
-  abbrev after : Tables
-  after = with_file t.next kind digest label head (content_of rows) t
+-- ---- the number
 
-  legal : IsLegal limits h (Import (today kind) label outcomes) (Run t.next)
-  legal = inl (form, inl is)
-
-  told : AreSound after → TablesRepresent (with_step h (Import (today kind) label outcomes) (Run t.next)) after
-  told sound =
-      let insert : Tables → Type 0 = λ x. TablesRepresent (with_step h (Import (today kind) label outcomes) (Run t.next)) x in
-      let by : List ℕ → Tables = λ d. with_file t.next kind d label head (content_of rows) t in
-      subst (λ d. insert (by d)) (sym new.digest_is)
-      (tell_insert limits h kind label outcomes head (content_of rows) t was (subst (λ d. AreSound (by d)) new.digest_is sound) represent legal new.head_is new.rows_are)
-
-  pub follows_run : AreSound (with_file t.next kind digest label head (content_of rows) t) → Follows limits (Import (today kind) label outcomes) h (with_file t.next kind digest label head (content_of rows) t)
-  follows_run sound = record { answer = Run t.next; accepted = refl; legal = legal; agrees = told sound }
-
-  pub was_run : {S : Type 0} (g : Ghosts S) (store : S) (number : ℕ) → number ≡ t.next → Represents g (with_file t.next kind digest label head (content_of rows) t) store → WasExpected g limits h (Import (today kind) label outcomes) (Run number) store
-  was_run g store number same represents =
-      subst (λ n. WasExpected g limits h (Import (today kind) label outcomes) (Run n) store) (sym same) (record { is_expected = is; after = record { t = after; represents = represents; agrees = told (g.sound after store represents) } })
-
--- a number that was answered is the next one, and nothing refuses it
-free : (r : Option Refusal) (n m : ℕ) → Ok m ≡ number_unless r n → (r ≡ None) × (m ≡ n)
-free None n m is = (refl, ap value is)
+-- a number that was answered is the one that is left
+free : (r : Option Refusal) (n m : ℕ) → Ok m ≡ number_unless r n → m ≡ n
+free None n m is = ap value is
   where
     value : Result ℕ Refusal → ℕ
     value (Ok k) = k
@@ -64,79 +44,79 @@ free None n m is = (refl, ap value is)
 free (Some refusal) n m is = absurd cc
 
 -- the number that a file gets in lines is the next one
-pub next_of : (limits : Limits) (head : FileHead) (c : Content) (t : Tables) (n : ℕ) → IsNumber limits head c t (Ok n) → n ≡ t.next
-next_of limits head c t n it = (free (no_room it.excess (nat_le limits.runs (length t.runs)) (nat_le limits.numbers t.next)) t.next n it.number_is).1
+pub next_of : (limits : Limits) (head : FileHead) (c : Content) (t : Tables) (n : ℕ) → IsNumber limits head c t (Ok n) → t.next ≡ n
+next_of limits head c t n it = sym (free (no_room it.excess (nat_le limits.runs (length t.runs)) (nat_le limits.numbers t.next)) t.next n it.number_is)
 
--- where it is refused, that is why
-pub refused_for : (r : Option Refusal) (n : ℕ) (refusal : Refusal) → Err refusal ≡ number_unless r n → r ≡ Some refusal
-refused_for None n refusal is = absurd cc
-refused_for (Some other) n refusal is = ap reason (sym is)
-  where
-    reason : Result ℕ Refusal → Option Refusal
-    reason (Ok k) = None
-    reason (Err e) = Some e
+-- the answer where a file is inserted under its number, or has none
+abbrev by_number : Result ℕ Refusal → Answer
+by_number (Ok n) = Run n
+by_number (Err refusal) = Refused refusal
 
--- a source without a byte has ended
-pub ended_at_once : (limit : ℕ) → HasEnded limit (Gave [] ∷ [])
-ended_at_once limit = record { reads = record { within = omega arith; unfailed = refl }; ended = refl }
+as_numbered : (r : Option Refusal) (n : ℕ) (number : Result ℕ Refusal) → number ≡ number_unless r n → refused_or r (Run n) ≡ by_number number
+as_numbered None n number is = ap by_number (sym is)
+as_numbered (Some refusal) n number is = ap by_number (sym is)
 
--- what a new file's number is after a history
-pub number_expected : {S : Type 0} (g : Ghosts S) (limits : Limits) (kind : Kind) (bytes digest : List ℕ) (head : FileHead) (rows : FileRows) (store : S) (h : History) (s : RepresentsHistory g h store) → IsNewFile h kind bytes digest head rows
-    → (number : Result ℕ Refusal) → IsNumber limits head (content_of rows) s.t number → number ≡ number_unless (room_refusal limits h kind bytes) (next h)
-number_expected g limits kind bytes digest head rows store h s new number is =
-    number_told h s.t kind bytes head (content_of rows) (g.sound s.t store s.represents) s.agrees new.head_is new.rows_are limits number is
+-- ---- over lines, whatever they represent
 
--- what becomes of a store that was asked for a number, and answered it
-module _ (limits : Limits) (kind : Kind) (label : List ℕ) (outcomes : List Outcome) (digest : List ℕ) (head : FileHead) (rows : FileRows) (form : IsInForm (Import (today kind) label outcomes)) (ended : HasEnded limits.bytes outcomes)
-    (number : ℕ) {S : Type 0} (g : Ghosts S) (old mid new : S) (asked : Asked g true old mid)
-    (told : (h : History) → RepresentsHistory g h old → IsNewFile h kind (bytes_of outcomes) digest head rows → Ok number ≡ number_unless (room_refusal limits h kind (bytes_of outcomes)) (next h)) where
-  pub run_expected : (h : History) (s : RepresentsHistory g h old) → IsNewFile h kind (bytes_of outcomes) digest head rows → expected_answer limits h (Import (today kind) label outcomes) ≡ Some (Run s.t.next)
-  run_expected h s it =
-      let none = (free (room_refusal limits h kind (bytes_of outcomes)) (next h) number (told h s it)).0 in
-      room_expected limits h kind label outcomes ended it.is_new it.sound ∙ ap (λ r. Some (refused_or r (Run (next h)))) none ∙ ap (λ n. Some (Run n)) (sym s.agrees.next)
+module _ (limits : Limits) (kind : Kind) (label : List ℕ) (parsed : ParsedFile) (Left : Tables → Type 0) (t : Tables) where
+  takes_known : (found : Option ℕ) (file : Result (FileHead × FileRows) (Fault × ℕ)) (answer : Answer) → AnswersUnchanged limits t found file answer → Left t → TakesIn limits kind label parsed.digest Left t found file answer
+  takes_known (Some n) file answer is left = (is, left)
+  takes_known None (Err fault) answer is left = (is, left)
+  takes_known None (Ok file) answer it left = record { number = Err it.0; is_number = it.1; inserts = (it.2, left) }
 
-  is_next : (h : History) (s : RepresentsHistory g h old) → IsNewFile h kind (bytes_of outcomes) digest head rows → s.t.next ≡ number
-  is_next h s it = s.agrees.next ∙ sym (free (room_refusal limits h kind (bytes_of outcomes)) (next h) number (told h s it)).1
+  pub known_in : (answer : Answer) → IsKnown limits parsed t answer → Left t → IsImported limits kind label parsed Left t answer
+  known_in answer it left = record { found = it.found; is_found = it.is_found; takes = takes_known it.found parsed.file answer it.unchanged left }
 
-  abbrev by_number : ℕ → Tables → Tables
-  by_number n t = with_file n kind digest label head (content_of rows) t
+  pub run_in : (n : ℕ) (file : SummedFile) → GetsNumber limits parsed t n file → Left (with_summed n kind parsed.digest label file t) → IsImported limits kind label parsed Left t (Run n)
+  run_in n file it left = record {
+    found = None;
+    is_found = it.is_new;
+    takes = subst (λ f. TakesIn limits kind label parsed.digest Left t None f (Run n)) (sym it.file_is) (record { number = Ok n; is_number = it.is_number; inserts = (refl, left) });
+  }
 
-  abbrev IsNumbered : Tables → Type 0
-  IsNumbered t = t.next ≡ number
+-- an answer that is known says that nothing has changed
+pub unaccepted : (limits : Limits) (t : Tables) (found : Option ℕ) (file : Result (FileHead × FileRows) (Fault × ℕ)) (answer : Answer) → AnswersUnchanged limits t found file answer → is_accepted answer ≡ false
+unaccepted limits t (Some n) file answer is = ap is_accepted is
+unaccepted limits t None (Err fault) answer is = ap is_accepted is
+unaccepted limits t None (Ok file) answer it = ap is_accepted it.2
 
-  abbrev Before : History → Tables → Type 0
-  Before h t = IsNewFile h kind (bytes_of outcomes) digest head rows × TablesRepresent h t
+-- ---- over lines that represent a history
 
-  pub run_steps : (answered done : Bool) → Changed g (Given IsNumbered) (Become (by_number number)) answered done mid new → Changed g Before (Follows limits (Import (today kind) label outcomes)) answered done old new
-  run_steps answered done made =
-      changed_soundly g (Given IsNumbered) (Become (by_number number)) Before (Follows limits (Import (today kind) label outcomes)) answered done old new
-      (λ h was.
-      let s : RepresentsHistory g h old = record { t = was.t; represents = was.represents; agrees = was.holds.1 } in
-      let same = is_next h s was.holds.0 in (
-        s.t,
-        given_at g IsNumbered s.t old same s.represents,
-        λ after sound is.
-            let named : after ≡ by_number s.t.next s.t = is ∙ ap (λ n. by_number n s.t) (sym same) in
-            subst (λ u. Follows limits (Import (today kind) label outcomes) h u) (sym named)
-            (follows_run limits h kind label outcomes digest head rows s.t form (run_expected h s was.holds.0) was.holds.0 (g.sound s.t old s.represents) s.agrees (subst AreSound named sound)),
-      ))
-      (changed_then g (Given IsNumbered) (Become (by_number number)) answered done old mid new asked made)
+module _ (limits : Limits) (kind : Kind) (label : List ℕ) (outcomes : List Outcome) (ended : HasEnded limits.bytes outcomes) (parsed : ParsedFile) (is : IsParsedOf kind (bytes_of outcomes) parsed) (h : History) (t : Tables) (was : AreSound t) (represent : TablesRepresent h t) where
+  abbrev IsExpected : Answer → Type 0
+  IsExpected answer = expected_answer limits h (Import (today kind) label outcomes) ≡ Some answer
 
-  pub run_done : (h : History) → RepresentsHistory g h old → IsNewFile h kind (bytes_of outcomes) digest head rows → (answered : Bool) → Changed g (Given IsNumbered) (Become (by_number number)) answered true mid new
-      → WasExpected g limits h (Import (today kind) label outcomes) (Run number) new
-  run_done h s it answered made =
-      let there = asked_stands g s.t old mid asked s.represents in
-      let same = is_next h s it in
-      was_run limits h kind label outcomes digest head rows s.t form (run_expected h s it) it (g.sound s.t old s.represents) s.agrees g new number (sym same)
-      (subst (λ n. Represents g (by_number n s.t) new) (sym same) (become_at g (by_number number) s.t new (made.done refl s.t (given_at g IsNumbered s.t mid same there))))
+  found_told : (found : Option ℕ) → IsRunOf parsed.digest t found → number_of (sha256 (bytes_of outcomes)) (held h) ≡ found
+  found_told found it = ap (λ d. number_of d (held h)) (sym is.digest) ∙ tells_digest h t represent parsed.digest found it
 
--- a file that is inserted after it was asked whether it is held
-pub new_steps : (limits : Limits) (kind : Kind) (label : List ℕ) (outcomes : List Outcome) (digest : List ℕ) (head : FileHead) (rows : FileRows) {S : Type 0} (g : Ghosts S) (old mid new : S) (result : Result Answer StoreError)
-    → Asked g true old mid → ((h : History) → RepresentsHistory g h old → IsNewFile h kind (bytes_of outcomes) digest head rows)
-    → Changed g (λ h t. IsNewFile h kind (bytes_of outcomes) digest head rows × TablesRepresent h t) (Follows limits (Import (today kind) label outcomes)) (is_ok result) (has_changed result) mid new
-    → Changed g TablesRepresent (Follows limits (Import (today kind) label outcomes)) (is_ok result) (has_changed result) old new
-new_steps limits kind label outcomes digest head rows g old mid new result asked is_new made =
-    let insert : History → Tables → Type 0 = λ h t. IsNewFile h kind (bytes_of outcomes) digest head rows × TablesRepresent h t in
-    changed_as g insert (Follows limits (Import (today kind) label outcomes)) TablesRepresent (Follows limits (Import (today kind) label outcomes)) (is_ok result) (has_changed result) old new
-    (λ h was. (h, record { t = was.t; holds = (is_new h (told_stands g h old was), was.holds); represents = was.represents }, λ next k. k))
-    (changed_then g insert (Follows limits (Import (today kind) label outcomes)) (is_ok result) (has_changed result) old mid new asked made)
+  -- of a file without a fault that is not held
+  numbered_expected : (file : FileHead × FileRows) → IsFileOf kind (bytes_of outcomes) (Ok file) → number_of (sha256 (bytes_of outcomes)) (held h) ≡ None
+      → (number : Result ℕ Refusal) → IsNumber limits file.0 (content_of file.1) t number → IsExpected (by_number number)
+  numbered_expected file whole new number it =
+      room_expected limits h kind label outcomes ended new whole.0
+      ∙ ap (λ a. Some a) (as_numbered (room_refusal limits h kind (bytes_of outcomes)) (next h) number (number_told h t kind (bytes_of outcomes) file.0 (content_of file.1) was represent whole.1 whole.2 limits number it))
+
+  known_expected : (found : Option ℕ) (file : Result (FileHead × FileRows) (Fault × ℕ)) (answer : Answer) → number_of (sha256 (bytes_of outcomes)) (held h) ≡ found → IsFileOf kind (bytes_of outcomes) file
+      → AnswersUnchanged limits t found file answer → IsExpected answer
+  known_expected (Some n) file answer found whole it = held_expected limits h kind label outcomes ended n found ∙ ap (λ a. Some a) (sym it)
+  known_expected None (Err fault) answer found whole it = fault_expected limits h kind label outcomes ended found fault whole ∙ ap (λ a. Some a) (sym it)
+  known_expected None (Ok file) answer found whole it = numbered_expected file whole found (Err it.0) it.1 ∙ ap (λ a. Some a) (sym it.2)
+
+  pub is_known_expected : (answer : Answer) → IsKnown limits parsed t answer → IsExpected answer
+  is_known_expected answer it = known_expected it.found parsed.file answer (found_told it.found it.is_found) is.file it.unchanged
+
+  module _ (n : ℕ) (file : SummedFile) (it : GetsNumber limits parsed t n file) where
+    whole : IsFileOf kind (bytes_of outcomes) (Ok (file.head.now, file.rows.now))
+    whole = subst (IsFileOf kind (bytes_of outcomes)) it.file_is is.file
+
+    pub run_expected : IsExpected (Run n)
+    run_expected = numbered_expected (file.head.now, file.rows.now) whole (found_told None it.is_new) (Ok n) it.is_number
+
+    -- the lines with the file in them represent the history with its import
+    pub run_told : IsInForm (Import (today kind) label outcomes) → AreSound (with_summed n kind parsed.digest label file t)
+        → TablesRepresent (with_step h (Import (today kind) label outcomes) (Run n)) (with_summed n kind parsed.digest label file t)
+    run_told form sound =
+        subst₂ (λ m d. AreSound (with_summed m kind d label file t) → IsExpected (Run m) → TablesRepresent (with_step h (Import (today kind) label outcomes) (Run m)) (with_summed m kind d label file t))
+        (next_of limits file.head.now (content_of file.rows.now) t n it.is_number) (sym is.digest)
+        (λ next_sound expected. tell_insert limits h kind label outcomes file.head.now (content_of file.rows.now) t was next_sound represent (inl (form, inl expected)) whole.1 whole.2)
+        sound run_expected

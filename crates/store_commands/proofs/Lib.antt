@@ -1,4 +1,5 @@
 mod Expectations
+mod Imported
 mod Imports
 mod Inserts
 mod LineLemmas

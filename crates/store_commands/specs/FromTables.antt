@@ -11,6 +11,7 @@ use Rattle.cost_rows.specs.declared.rows.FileTotals.{FileTotals}
 use Rattle.run_stores.specs.BookRuns.{with_file}
 use Rattle.run_stores.specs.Totals.{IsHeldIn}
 use Rattle.run_stores.specs.Lookups.{IsRunOf}
+use Rattle.run_stores.specs.declared.summed.SummedFile.{SummedFile}
 use Rattle.plain_tables.specs.Tables.{Tables}
 use Rattle.profile_records.specs.declared.kinds.Kind.{Kind}
 use Rattle.histories.specs.Legal.{faulty}
@@ -61,3 +62,28 @@ pub record IsImported (limits : Limits) (kind : Kind) (label : List ℕ) (parsed
   pub found : Option ℕ
   pub is_found : IsRunOf parsed.digest t found
   pub takes : TakesIn limits kind label parsed.digest Left t found parsed.file answer
+
+-- ---- before anything is changed
+
+-- a run of its digest is held; or it has a fault; or there is no room for it
+abbrev pub AnswersUnchanged : Limits → Tables → Option ℕ → Result (FileHead × FileRows) (Fault × ℕ) → Answer → Type 0
+AnswersUnchanged limits t (Some n) file answer = answer ≡ answers.Held n
+AnswersUnchanged limits t None (Err fault) answer = answer ≡ faulty fault
+AnswersUnchanged limits t None (Ok file) answer = (refusal : Refusal) × IsNumber limits file.0 (content_of file.1) t (Err refusal) × (answer ≡ answers.Refused refusal)
+
+-- the answer is known, and nothing is inserted
+pub record IsKnown (limits : Limits) (parsed : ParsedFile) (t : Tables) (answer : Answer) : Type 0 where
+  pub found : Option ℕ
+  pub is_found : IsRunOf parsed.digest t found
+  pub unchanged : AnswersUnchanged limits t found parsed.file answer
+
+-- it is not held and has no fault, and this is its number
+pub record GetsNumber (limits : Limits) (parsed : ParsedFile) (t : Tables) (n : ℕ) (file : SummedFile) : Type 0 where
+  pub is_new : IsRunOf parsed.digest t None
+  pub file_is : parsed.file ≡ Ok (file.head.now, file.rows.now)
+  pub is_number : IsNumber limits file.head.now (content_of file.rows.now) t (Ok n)
+
+-- the number and the file that are to be inserted, or the answer
+abbrev pub IsAdmitted : Limits → ParsedFile → Tables → Result (ℕ × SummedFile) Answer → Type 0
+IsAdmitted limits parsed t (Ok admitted) = GetsNumber limits parsed t admitted.0 admitted.1
+IsAdmitted limits parsed t (Err answer) = IsKnown limits parsed t answer

@@ -1,5 +1,4 @@
 pub mod Changes
 pub mod FromTables
-pub mod Imports
 pub mod Lists
 pub mod Refused

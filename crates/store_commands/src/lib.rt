@@ -8,7 +8,7 @@ mod answering;
 mod changes;
 // The texts of lists.
 mod lists;
-// Imports a file that was read, or refuses it (specs/Imports.antt, Refused.antt).
+// Imports a file that was read, or refuses it (specs/FromTables.antt, Refused.antt).
 mod taking;
 
 pub use answering::{change_in, remove_in};

@@ -11,8 +11,7 @@ ghost use Rattle.histories.specs.Formats.{today};
 ghost use Rattle.histories.specs.History.{History, Import};
 ghost use Rattle.histories.specs.Sums as sums;
 ghost use Rattle.histories.specs.Answered.{RepresentsHistory, WasExpected, StepsToIf, has_changed};
-ghost use Rattle.store_commands.specs.FromTables.{IsExcess, IsNumber, IsInsertedIn, IsImported};
-ghost use Rattle.store_commands.specs.Imports.{IsNewFile, InsertsNew};
+ghost use Rattle.store_commands.specs.FromTables.{IsAdmitted, IsExcess, IsNumber, IsImported};
 ghost use Rattle.file_reading.specs.FileParsers.{IsParsedOf};
 ghost use Rattle.byte_io.specs.Reads.{HasEnded};
 
@@ -101,33 +100,37 @@ fn number_for<S: RunStore>(
     Ok(Ok(number))
 }
 
-/// Inserts a file that has no fault and is not held, if there is room for it.
-fn insert_file<S: RunStore>(
+/// What a file that was read to its end is answered where nothing is to change: it is held, it has a fault, or there is no
+/// room for it. Else the number under which it is to be inserted, and the file with its sums.
+fn admitted<'a, S: RunStore>(
     store: &mut S,
     alloc: Global,
     limits: Limits,
-    kind: Kind,
-    digest: &[u8; 32],
-    label: &str,
-    file: &SummedFile<'_>,
-) -> Result<Answer, StoreError>
-    requires { IsLabel label.now }
-    ensures answered { IsFaithful S.StoreState store.new → (h : History) (outcomes : List Outcome) → RepresentsHistory S.StoreState h store.old
-        → HasEnded limits.bytes outcomes → IsNewFile h kind (bytes_of outcomes) digest.now file.now.head.now file.now.rows.now
-        → IfOk result (λ answer. WasExpected S.StoreState limits h (Import (today kind) label.now outcomes) answer store.new) }
-    ensures told { Told S.StoreState result store.old store.new
-        (IsInsertedIn limits kind label.now digest.now (λ _. ⊤) file.now.head.now (content_of file.now.rows.now)) }
-    ensures made { Made S.StoreState result store.old store.new
-        (IsInsertedIn limits kind label.now digest.now (λ left. Represents S.StoreState left store.new) file.now.head.now (content_of file.now.rows.now)) }
-    ensures steps { (outcomes : List Outcome) → HasEnded limits.bytes outcomes
-        → InsertsNew S.StoreState limits kind label.now outcomes digest.now file.now.head.now file.now.rows.now result store.old store.new }
+    parsed: &'a ParsedFile,
+) -> Result<Result<(u32, SummedFile<'a>), Answer>, StoreError>
+    ensures told { Told S.StoreState result store.old store.new (IsAdmitted limits parsed.now) }
+    ensures asks { Asks S.StoreState (is_ok result) store.old store.new }
 {
-    match number_for(store, alloc, limits, file)? {
-        Ok(number) => {
-            store.put_run(alloc, number, kind, digest, label, file)?;
-            Ok(Answer::Run(number))
+    if let Some(number) = store.run_of_digest(&parsed.digest)? {
+        return Ok(Err(Answer::Held(number)));
+    }
+    match &parsed.file {
+        Ok((head, rows)) => {
+            let file = SummedFile::of(alloc, head, rows)?;
+            // (`file` is dropped in each arm: faster to prove than by `?` and at the end)
+            match number_for(store, alloc, limits, &file) {
+                Ok(Ok(number)) => Ok(Ok((number, file))),
+                Ok(Err(refusal)) => {
+                    drop(file);
+                    Ok(Err(Answer::Refused(refusal)))
+                }
+                Err(failure) => {
+                    drop(file);
+                    Err(failure)
+                }
+            }
         }
-        Err(refusal) => Ok(Answer::Refused(refusal)),
+        Err((fault, line)) => Ok(Err(Answer::Refused(Refusal::File(*fault, *line)))),
     }
 }
 
@@ -150,14 +153,14 @@ pub fn import_parsed<S: RunStore>(
         → StepsToIf S.StoreState limits (Import (today kind) label.now outcomes) (is_ok result) (has_changed result) store.old store.new }
     ensures shut { KeepsShut S.StoreState store.old store.new }
 {
-    if let Some(number) = store.run_of_digest(&parsed.digest)? {
-        return Ok(Answer::Held(number));
-    }
-    match &parsed.file {
-        Ok((head, rows)) => {
-            let file = SummedFile::of(alloc, head, rows)?;
-            insert_file(store, alloc, limits, kind, &parsed.digest, label, &file)
+    match admitted(store, alloc, limits, parsed)? {
+        Ok((number, file)) => {
+            let put = store.put_run(alloc, number, kind, &parsed.digest, label, &file);
+            // (faster to prove than at the end)
+            drop(file);
+            put?;
+            Ok(Answer::Run(number))
         }
-        Err((fault, line)) => Ok(Answer::Refused(Refusal::File(*fault, *line))),
+        Err(answer) => Ok(answer),
     }
 }

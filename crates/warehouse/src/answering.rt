@@ -1,73 +1,27 @@
-// What is asked and imported over a store, each with its answer.
+// What is asked over a store, each with its answer.
 ghost use Rattle.std.specs.Prelude.{◌≡◌, ◌⊎◌, Err, IfOk};
-ghost use Rattle.plain_tables.specs.Labels.{IsLabel};
 ghost use Rattle.plain_tables.specs.declared.errors.StoreError.TheVariants.{Memory};
-ghost use Rattle.histories.specs.Formats.{today};
-ghost use Rattle.histories.specs.History.{Annotate, Import};
+ghost use Rattle.histories.specs.History.{Annotate};
 ghost use Rattle.histories.specs.declared.answers.Answer.{Answer};
 ghost use Rattle.requests.specs.Plain.{plain_query, plain_selection};
 ghost use Rattle.histories.specs.Answered.{AnswersAsked};
 ghost use Rattle.warehouse.specs.Answered.{IsShort, WasAnsweredOver};
-ghost use Rattle.warehouse.specs.FromTables.{AnswersIn, WasAnnotated, WasImported};
+ghost use Rattle.warehouse.specs.FromTables.{AnswersIn, WasAnnotated};
 
 use crate::refusals::unread_answer;
 use byte_io::{Source, read_to_end};
-use file_reading::parse_file;
-use histories::{Answer, Limits, Refusal, answer_of};
-use profile_records::Kind;
+use histories::{Answer, answer_of};
 use report_texts::CallSide;
 use requests::{Query, Selection};
 use run_stores::{RunStore, StoreError};
 use std::alloc::Global;
 use store_calls::{calls_answer, inclusive_answer};
-use store_commands::{groups_answer, import_parsed, label_of, runs_answer};
+use store_commands::{groups_answer, runs_answer};
 use store_exports::{annotate_answer, csv_answer, folded_answer};
 use store_reports::{by_answer, subtract_answer, verify_answer};
 
 /// How many bytes a source that is annotated may have.
 const SOURCE_BYTES: u64 = 16_777_216;
-
-/// Imports the file that a source gives, under a label in form.
-fn import_labelled<S: RunStore, R: Source>(
-    store: &mut S,
-    alloc: Global,
-    limits: Limits,
-    kind: Kind,
-    label: &str,
-    source: &mut R,
-) -> Answer
-    requires { IsLabel label.now }
-    ensures answered { WasAnsweredOver S.StoreState R.reads limits (Import (today kind) label.now) source.old source.new result store.old store.new }
-    ensures found { WasImported S.StoreState R.reads limits kind label.now source.old source.new result store.old store.new }
-{
-    match parse_file(alloc, kind, limits.bytes, source) {
-        Ok(parsed) => {
-            let imported = import_parsed(store, alloc, limits, kind, label, &parsed);
-            // (faster to prove than at the end)
-            drop(parsed);
-            answer_of(imported)
-        }
-        Err(unread) => unread_answer(unread),
-    }
-}
-
-/// Imports the file that a source gives.
-pub(crate) fn import_in<S: RunStore, R: Source>(
-    store: &mut S,
-    alloc: Global,
-    limits: Limits,
-    kind: Kind,
-    label: &[u8],
-    source: &mut R,
-) -> Answer
-    ensures answered { WasAnsweredOver S.StoreState R.reads limits (Import (today kind) label.now) source.old source.new result store.old store.new }
-    ensures found { WasImported S.StoreState R.reads limits kind label.now source.old source.new result store.old store.new }
-{
-    match label_of(label) {
-        Some(label) => import_labelled(store, alloc, limits, kind, label, source),
-        None => Answer::Refused(Refusal::BadName),
-    }
-}
 
 /// What a question is answered. No text is made much longer than `most` bytes.
 pub(crate) fn answer<S: RunStore>(

@@ -12,17 +12,19 @@ ghost use Rattle.histories.specs.FromTables.{OrFailed};
 ghost use Rattle.warehouse.specs.Answered.{IsGivenFor, IsShort, IsShortFor, ReadsNone, WasAnswered, WasAnsweredOver, WasRun};
 ghost use Rattle.warehouse.specs.FromTables.{AnswersIn, IsFoundOf, IsFoundWithSource, IsFoundOver, WasImported};
 
-use crate::answering::{annotate_in, answer, import_in, keep_short};
+use crate::answering::{annotate_in, answer, keep_short};
+use crate::refusals::unread_answer;
 use crate::warehouse::Warehouse;
 use byte_io::Source;
 use cost_exports::CellSums;
-use histories::{Answer, answer_of};
+use file_reading::parse_file;
+use histories::{Answer, Refusal, answer_of};
 use profile_records::Kind;
 use requests::{Command, Query, Selection};
 use run_stores::RunStore;
 use std::alloc::{AllocError, Global};
 use std::collections::VecDeque;
-use store_commands::{GroupChange, change_in, remove_in};
+use store_commands::{GroupChange, change_in, import_parsed, label_of, remove_in};
 use store_exports::csv_sums;
 
 impl<S: RunStore> Warehouse<S> {
@@ -41,7 +43,19 @@ impl<S: RunStore> Warehouse<S> {
             result self.old.store self.new.store }
         ensures found { WasImported S.StoreState R.reads self.old.limits kind label.now source.old source.new result self.old.store self.new.store }
     {
-        import_in(&mut self.store, alloc, self.limits, kind, label, source)
+        let Some(label) = label_of(label) else {
+            return Answer::Refused(Refusal::BadName);
+        };
+        match parse_file(alloc, kind, self.limits.bytes, source) {
+            Ok(parsed) => {
+                let store = &mut self.store;
+                let imported = import_parsed(store, alloc, self.limits, kind, label, &parsed);
+                // (faster to prove than at the end)
+                drop(parsed);
+                answer_of(imported)
+            }
+            Err(unread) => unread_answer(unread),
+        }
     }
 
     /// Answers a question. A text that is longer than it may be is refused as one that there is no memory for.
@@ -123,9 +137,7 @@ impl<S: RunStore> Warehouse<S> {
     {
         let store = &mut self.store;
         match command {
-            Command::Import { kind, label, .. } => {
-                import_in(store, alloc, self.limits, *kind, label, source)
-            }
+            Command::Import { kind, label, .. } => self.import(alloc, *kind, label, source),
             Command::Annotate {
                 selection,
                 event,
@@ -149,7 +161,7 @@ impl<S: RunStore> Warehouse<S> {
                 kind,
                 label,
                 mut source,
-            } => import_in(store, alloc, self.limits, kind, label, &mut source),
+            } => self.import(alloc, kind, label, &mut source),
             Command::Annotate {
                 selection,
                 event,

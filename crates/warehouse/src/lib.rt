@@ -1,9 +1,9 @@
 //! The warehouse: commands over a store of runs, their answers, and the line that is printed of each.
 #![tactic(auto)]
 
-// What is asked and imported over a store, each with its answer.
+// What is asked over a store, each with its answer.
 mod answering;
-// Commands, one by one and in lists.
+// Imports, questions and commands, one by one and in lists.
 mod apply;
 // Laws: which histories a store has.
 mod laws;

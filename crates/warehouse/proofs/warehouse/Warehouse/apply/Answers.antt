@@ -10,18 +10,18 @@ use Rattle.warehouse.proofs.warehouse.Warehouse.apply.Goals as goal
 
 pub returns-in-Import-clause-answered : goal.returns-in-Import-clause-answered
 returns-in-Import-clause-answered g c =
-    let it = c.import_in.ensures.answered in record {
+    let it = c.import.ensures.answered in record {
       command = command_read (plain_command c.args.command) it.outcomes;
-      says = subst (λ k. Says g.R.Source.reads k (command_read (plain_command k) it.outcomes)) (sym c.in-Import.is) (it.outcomes, c.import_in.new.source, it.came, refl);
-      answers = subst (λ k. IsFaithful g.S.StoreState c.import_in.new.store → Answers g.S.StoreState c.args.self.now.limits (command_read (plain_command k) it.outcomes) c.import_in.result c.args.self.now.store c.import_in.new.store) (sym c.in-Import.is) it.answers;
+      says = subst (λ k. Says g.R.Source.reads k (command_read (plain_command k) it.outcomes)) (sym c.in-Import.is) (it.outcomes, c.import.new.source, it.came, refl);
+      answers = subst (λ k. IsFaithful g.S.StoreState c.import.new.self.store → Answers g.S.StoreState c.args.self.now.limits (command_read (plain_command k) it.outcomes) c.import.result c.args.self.now.store c.import.new.self.store) (sym c.in-Import.is) it.answers;
     }
 
 pub returns-in-Import-clause-found : goal.returns-in-Import-clause-found
 returns-in-Import-clause-found g c =
-    subst (λ k. IsFoundWithSource g.S.StoreState g.R.Source.reads c.args.self.now.limits k c.import_in.result c.args.self.now.store c.import_in.new.store) (sym c.in-Import.is) (c.import_in.new.source, c.import_in.ensures.found)
+    subst (λ k. IsFoundWithSource g.S.StoreState g.R.Source.reads c.args.self.now.limits k c.import.result c.args.self.now.store c.import.new.self.store) (sym c.in-Import.is) (c.import.new.source, c.import.ensures.found)
 
 pub returns-in-Import-clause-short : goal.returns-in-Import-clause-short
-returns-in-Import-clause-short g c = subst (λ k. IsShortFor c.args.self.now.most k c.import_in.result) (sym c.in-Import.is) tt
+returns-in-Import-clause-short g c = subst (λ k. IsShortFor c.args.self.now.most k c.import.result) (sym c.in-Import.is) tt
 
 pub returns-in-Annotate-clause-answered : goal.returns-in-Annotate-clause-answered
 returns-in-Annotate-clause-answered g c =

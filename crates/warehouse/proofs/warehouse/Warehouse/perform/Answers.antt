@@ -8,14 +8,14 @@ use Rattle.warehouse.proofs.warehouse.Warehouse.perform.Goals as goal
 
 pub returns-in-Import-clause-answered : goal.returns-in-Import-clause-answered
 returns-in-Import-clause-answered g c =
-    subst (λ k. WasAnsweredOver g.S.StoreState g.R.Source.reads c.args.self.now.limits (command_read (plain_command k)) c.args.source.now c.import_in.new.source c.import_in.result c.args.self.now.store c.import_in.new.store) (sym c.in-Import.is) (c.import_in.ensures.answered)
+    subst (λ k. WasAnsweredOver g.S.StoreState g.R.Source.reads c.args.self.now.limits (command_read (plain_command k)) c.args.source.now c.import.new.source c.import.result c.args.self.now.store c.import.new.self.store) (sym c.in-Import.is) (c.import.ensures.answered)
 
 pub returns-in-Import-clause-found : goal.returns-in-Import-clause-found
 returns-in-Import-clause-found g c =
-    subst (λ k. IsFoundOver g.S.StoreState g.R.Source.reads c.args.self.now.limits (plain_command k) c.args.source.now c.import_in.new.source c.import_in.result c.args.self.now.store c.import_in.new.store) (sym c.in-Import.is) c.import_in.ensures.found
+    subst (λ k. IsFoundOver g.S.StoreState g.R.Source.reads c.args.self.now.limits (plain_command k) c.args.source.now c.import.new.source c.import.result c.args.self.now.store c.import.new.self.store) (sym c.in-Import.is) c.import.ensures.found
 
 pub returns-in-Import-clause-short : goal.returns-in-Import-clause-short
-returns-in-Import-clause-short g c = subst (λ k. IsShortFor c.args.self.now.most k c.import_in.result) (sym c.in-Import.is) tt
+returns-in-Import-clause-short g c = subst (λ k. IsShortFor c.args.self.now.most k c.import.result) (sym c.in-Import.is) tt
 
 pub returns-in-Annotate-clause-answered : goal.returns-in-Annotate-clause-answered
 returns-in-Annotate-clause-answered g c =
