@@ -7,12 +7,17 @@ use Rattle.std.proofs.lemmas.Slice.Eq.{bytes_eq-Decides}
 use Rattle.plain_tables.specs.Changes.{has_run}
 use Rattle.plain_tables.specs.Lists.{Has}
 use Rattle.plain_tables.specs.Sound.{AreOfRuns}
-use Rattle.plain_tables.specs.Tables.{Tables, RunRow}
+use Rattle.plain_tables.specs.Tables.{Tables, RunRow, EventRow, DerivedRow, CoefRow, StoredCell, StoredCall, StoredStack}
 use Rattle.plain_tables.proofs.Lists.{all_has, some_has}
 use Rattle.run_lists.specs.Listed.{AreListed, run_row}
 use Rattle.run_lists.specs.declared.listed.ListedRun.{ListedRun}
 use Rattle.run_lists.specs.declared.listed.RunLists.{RunLists}
+use Rattle.run_stores.specs.Files.{with_head}
+use Rattle.sqlite_trees.specs.Tree.{Trees}
+use Rattle.store_schema.specs.Tables.{Holds}
+use Rattle.store_schema.proofs.Sound.{sound_of}
 use Rattle.page_imports.specs.Imports.{reaches}
+use Rattle.page_imports.specs.Needs.{HasNoRow}
 
 not_any : {X : Type 0} (p : X → Bool) (xs : List X) → (list_any p xs ≡ true → ⊥) → list_any p xs ≡ false
 not_any p xs never = step (list_any p xs) refl
@@ -56,3 +61,16 @@ none_reached t lists n listed below next = go lists.runs.items (subst (AllByRecu
     go : (lines : List ListedRun) → AllByRecursion (λ (r : RunRow). r.number < n) (map run_row lines) → list_any (reaches n) lines ≡ false
     go [] all = refl
     go (line ∷ lines) all = ap (λ b. not b || list_any (reaches n) lines) (lt-ltb line.entry.number n all.0) ∙ go lines all.1
+
+-- a run that was added as the next one has no row yet
+pub added_has_none : (r : RunRow) (es : List EventRow) (ds : List DerivedRow) (ks : List CoefRow) (t : Tables) (db : Trees) → Holds t db → t.next ≡ r.number → HasNoRow r.number (with_head r es ds ks t)
+added_has_none r es ds ks t db holds next =
+    let n = r.number in
+    let new = above_is_new t n (subst (λ m. AllByRecursion (λ (it : RunRow). it.number < m) t.runs) next holds.below) in
+    let sound = sound_of t db holds in
+    let held = added_is_held t.runs r in
+    record {
+      cells = record { held = held; none = no_lines t n new (λ (c : StoredCell). c.run) t.cells sound.cells };
+      calls = record { held = held; none = no_lines t n new (λ (a : StoredCall). a.run) t.calls sound.calls };
+      stacks = record { held = held; none = no_lines t n new (λ (s : StoredStack). s.run) t.stacks sound.stacks };
+    }

@@ -10,7 +10,6 @@ use Rattle.cost_rows.specs.Calls.{Calls}
 use Rattle.cost_rows.specs.Content.{Content}
 use Rattle.cost_rows.specs.Rows.{content_of}
 use Rattle.cost_rows.specs.Totals.{count_total}
-use Rattle.cost_rows.specs.declared.file_rows.FileRows.{FileRows}
 use Rattle.cost_rows.specs.declared.places.Call.{Call}
 use Rattle.cost_rows.specs.declared.places.CellPlace.{CellPlace}
 use Rattle.line_fills.specs.Causes.{CanBeFilledIn}
@@ -102,16 +101,6 @@ pub record CanPutRows (run : ℕ) (c : Content) (t : Tables) (db : Trees) : Type
 pub record CanBeFiled (f : Filed) (t : Tables) (db : Trees) : Type 0 where
   pub head : CanPutHead f.line f.events f.derived f.coefs db
   pub rows : CanPutRows f.line.number f.rows (with_head f.line f.events f.derived f.coefs t) db
-
--- what is written of a run, from lines as the code has them
-abbrev pub written : RunLine → HeadRows → FileRows → Filed
-written run head rows = record {
-  line = run_row run;
-  events = map event_row head.events.items;
-  derived = map derived_row head.derived.items;
-  coefs = map coef_row head.coefs.items;
-  rows = content_of rows;
-}
 
 -- a file can be put in as a run: it is the next one, and new; its head and its number of calls fit; and what is written of it can be put in
 pub record CanImport (number : ℕ) (kind : Kind) (digest label : List ℕ) (file : SummedFile) (t : Tables) (db : Trees) : Type 0 where

@@ -1,15 +1,13 @@
 -- What it means that a file is put into a store as a run.
-use Rattle.std.specs.Prelude.{◌≡◌, ◌≢◌, ℕ, nat_lt, Bool, not, List, Result, MatchResult, OnOk}
+use Rattle.std.specs.Prelude.{◌≡◌, ◌≢◌, ℕ, nat_lt, Bool, not, List, Result, OnOk}
 use Rattle.sqlite_disk.specs.declared.Disk.{Ghosts}
 use Rattle.sqlite_store.specs.declared.catalog.Wanted.{Wanted}
 use Rattle.sqlite_trees.specs.Tree.{Trees}
 use Rattle.page_files.specs.declared.files.PageFile.{PageFile}
 use Rattle.page_files.specs.Files.{IsFaithful}
 use Rattle.page_files.specs.Held.{Rests, Writes}
-use Rattle.page_places.specs.Failures.{FailsToStore}
 use Rattle.plain_tables.specs.Lists.{Has}
 use Rattle.plain_tables.specs.Tables.{Tables, RunRow}
-use Rattle.plain_tables.specs.declared.errors.StoreError.{StoreError}
 use Rattle.run_lists.specs.Listed.{AreListed}
 use Rattle.run_lists.specs.declared.listed.ListedRun.{ListedRun}
 use Rattle.run_lists.specs.declared.listed.RunLists.{RunLists}
@@ -30,9 +28,3 @@ module _ {D : Type 0} {g : Ghosts D} where
   Imports old new lists change result =
       IsFaithful new → (wanted : List Wanted) (known : List ℕ) (db : Trees) (t : Tables) → Rests wanted known db old → Holds t db → AreListed t lists
       → OnOk result ((next : Trees) × Writes wanted known db next new × Holds (change t) next)
-
-  -- the same of a store in which a run under this number and with this digest would be a new one; or there is a cause, where this may be missing
-  abbrev pub ImportsNew : PageFile D g → PageFile D g → ℕ → List ℕ → (Tables → Tables) → (Tables → Trees → Type 0) → {A : Type 0} → Result A StoreError → Type 0
-  ImportsNew old new number digest change Can result =
-      IsFaithful new → (wanted : List Wanted) (known : List ℕ) (db : Trees) (t : Tables) → Rests wanted known db old → Holds t db → IsNew number digest t
-      → MatchResult result (λ _. (next : Trees) × Writes wanted known db next new × Holds (change t) next) (FailsToStore old new (Can t db))

@@ -9,15 +9,18 @@ use Rattle.sqlite_trees.specs.Tree.{Trees}
 use Rattle.sqlite_value.specs.Order.{Row}
 use Rattle.page_files.specs.declared.files.PageFile.{PageFile}
 use Rattle.page_files.specs.Files.{IsFaithful}
-use Rattle.page_files.specs.Held.{Writes}
+use Rattle.page_files.specs.Held.{Rests, Writes}
 use Rattle.page_places.specs.declared.roots.StoreRoots.{StoreRoots}
 use Rattle.page_places.specs.Failures.{FailsToStore}
 use Rattle.page_places.specs.Roots.{AreRoots}
 use Rattle.plain_tables.specs.Tables.{Tables}
 use Rattle.plain_tables.specs.declared.errors.StoreError.{StoreError}
+use Rattle.run_stores.specs.BookRuns.{Filed}
+use Rattle.run_stores.specs.Files.{with_head}
 use Rattle.store_schema.specs.Schema.{schema_two, meta_at, run_at, run_event_at, derived_at, coef_at, name_at, arc_at, stack_at, thread_cell_at}
 use Rattle.store_schema.specs.Tables.{Holds}
 use Rattle.page_imports.specs.Causes.{CanBePut}
+use Rattle.page_imports.specs.Imports.{IsNew}
 use Rattle.page_imports.specs.Needs.{CanFill}
 
 -- each table but these has the rows that it had
@@ -70,3 +73,12 @@ module _ {D : Type 0} {g : Ghosts D} where
       → (List X → Tables → Tables) → List X → {A : Type 0} → Result A StoreError → Type 0
   PutsLines old new roots table lines run columns with_lines news result =
       (n : ℕ) → Makes old new roots (table ∷ []) (CanFill lines run n news) (with_lines news) (λ _. CanBePut table (map columns news)) result
+
+  -- where the file rests on a store in which this run would be a new one, a transaction has begun in which what it says of itself was put in,
+  -- and these are the roots of its tables; or there is a cause, where this may be missing
+  abbrev pub Begins : PageFile D g → PageFile D g → Filed → (Tables → Trees → Type 0) → Result StoreRoots StoreError → Type 0
+  Begins old new f Can result =
+      IsFaithful new → (wanted : List Wanted) (known : List ℕ) (db : Trees) (t : Tables) → Rests wanted known db old → Holds t db
+      → IsNew f.line.number f.line.digest t
+      → MatchResult result (λ roots. AreRoots known roots × HasMade head_tables wanted known db db (with_head f.line f.events f.derived f.coefs t) new)
+      (FailsToStore old new (Can t db))

@@ -8,18 +8,16 @@ ghost use Rattle.cost_rows.specs.Totals.{count_total};
 ghost use Rattle.page_files.specs.Files.{IsUsable};
 ghost use Rattle.plain_tables.specs.Tables.{Tables};
 ghost use Rattle.run_stores.specs.Heads.{IsComplete};
-ghost use Rattle.run_lines.specs.Runs.{with_run_of};
 ghost use Rattle.run_lines.specs.Sums.{AllFit};
 ghost use Rattle.run_lists.specs.Listed.{AreListed};
+ghost use Rattle.run_stores.specs.BookRuns.{filed};
 ghost use Rattle.run_stores.specs.Runs.{with_summed};
-ghost use Rattle.page_imports.specs.Causes.{CanBeFiled, CanImport, FailsWithout, written};
-ghost use Rattle.page_imports.specs.Imports.{Imports, ImportsNew, IsNew, reaches};
-ghost use Rattle.page_imports.specs.Needs.{CanBegin};
-ghost use Rattle.page_imports.specs.Steps.{Makes, head_tables, row_tables};
+ghost use Rattle.page_imports.specs.Causes.{CanImport, FailsWithout};
+ghost use Rattle.page_imports.specs.Imports.{Imports, IsNew, reaches};
+ghost use Rattle.page_imports.specs.Steps.{Begins};
 
 use crate::heads::put_head;
 use crate::rows::put_rows;
-use cost_rows::FileRows;
 use page_files::PageFile;
 use page_places::{StoreRoots, find_roots};
 use plain_tables::StoreError;
@@ -29,25 +27,7 @@ use run_lists::RunLists;
 use run_stores::SummedFile;
 use sqlite_disk::Disk;
 use std::alloc::Global;
-use store_schema::{HeadRows, RunRow, column_int_of, number_of_kind};
-
-/// Puts a new run, what it says of itself and its rows, behind the others.
-fn put_contents<D: Disk>(
-    file: &mut PageFile<D>,
-    alloc: Global,
-    roots: &StoreRoots,
-    run: &RunRow<'_>,
-    head: &HeadRows<'_>,
-    rows: &FileRows,
-) -> Result<(), StoreError>
-    ensures done { Makes file.old file.new roots.now (head_tables ++ row_tables) (CanBegin run.now head.now) (with_run_of run.now head.now rows.now)
-        (CanBeFiled (written run.now head.now rows.now)) result }
-    ensures usable { OnOk result (IsUsable file.new) }
-    ensures keeps { Keeps (pools.state file.old.pool) (pools.state file.new.pool) }
-{
-    put_head(file, alloc, roots, run, head)?;
-    put_rows(file, alloc, roots, run.number, rows)
-}
+use store_schema::{RunRow, column_int_of, number_of_kind};
 
 /// Whether a run has this number or a greater one.
 fn is_reached(lists: &RunLists, number: u32) -> bool
@@ -64,8 +44,9 @@ fn is_next(lists: &RunLists, number: u32, digest: &[u8; 32]) -> bool
     lists.next_run() == number && lists.run_of_digest(digest).is_none()
 }
 
-/// Puts a file in as a run, as `put_run`, where it is the next one.
-fn put_new_run<D: Disk>(
+/// Begins to put a file in as a run, as `put_run`, where it is the next one: puts what the run says of itself behind the
+/// others, and nothing of its rows. Gives the roots of the tables.
+fn put_beginning<D: Disk>(
     file: &mut PageFile<D>,
     alloc: Global,
     number: u32,
@@ -73,8 +54,8 @@ fn put_new_run<D: Disk>(
     digest: &[u8; 32],
     label: &str,
     summed: &SummedFile<'_>,
-) -> Result<(), StoreError>
-    ensures done { ImportsNew file.old file.new number digest.now (with_summed number kind digest.now label.now summed.now)
+) -> Result<StoreRoots, StoreError>
+    ensures done { Begins file.old file.new (filed number kind digest.now label.now summed.now.head.now (content_of summed.now.rows.now))
         (CanImport number kind digest.now label.now summed.now) result }
     ensures complete { OnOk result (IsComplete summed.now.head.now) }
     ensures fits { OnOk result (AllFit summed.now.head.now (content_of summed.now.rows.now)) }
@@ -94,7 +75,8 @@ fn put_new_run<D: Disk>(
         call_count,
     };
     let lines = head_rows(alloc, number, summed.head, &summed.totals)?;
-    put_contents(file, alloc, &roots, &run, &lines, summed.rows)
+    put_head(file, alloc, &roots, &run, &lines)?;
+    Ok(roots)
 }
 
 /// Puts a file in as the run of the next number. `digest` is the SHA-256 of the file, `label` a text in form
@@ -124,5 +106,6 @@ pub fn put_run<D: Disk>(
     if is_reached(lists, number) || !is_next(lists, number, digest) {
         return Err(StoreError::Store);
     }
-    put_new_run(file, alloc, number, kind, digest, label, summed)
+    let roots = put_beginning(file, alloc, number, kind, digest, label, summed)?;
+    put_rows(file, alloc, &roots, number, summed.rows)
 }
