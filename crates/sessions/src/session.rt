@@ -164,6 +164,16 @@ impl<'a, R: Files + AllocGlobal, W: Write + Drop, S: RunStore> Session<'a, R, W,
                 let answer = self.warehouse.ask(alloc, query);
                 self.tell(answer)
             }
+            Command::Import {
+                kind,
+                label,
+                source: path,
+            } => {
+                let mut source = SeenFile::new(self.rt, *path);
+                let answer = self.warehouse.import(alloc, *kind, *label, &mut source);
+                keep_remark(remarks, *path, command, &answer, &source);
+                self.tell(answer)
+            }
             _ => {
                 let path = path_of(command);
                 let mut source = SeenFile::new(self.rt, path);
