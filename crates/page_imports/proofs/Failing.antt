@@ -6,7 +6,7 @@ use Rattle.page_places.specs.Failures.{FailsToStore}
 use Rattle.page_places.proofs.Failing.{memory_fails}
 use Rattle.plain_tables.specs.declared.errors.StoreError.{StoreError}
 use Rattle.plain_tables.specs.declared.errors.StoreError.TheVariants.{Memory, Store}
-use Rattle.run_lines.specs.Fits.{RefusesUnless}
+use Rattle.page_imports.specs.RowFits.{RefusesUnless}
 
 -- what is refused is refused where more was needed in all
 pub refuses_for : {P Q : Type 0} (e : StoreError) → (Q → P) → RefusesUnless P e → RefusesUnless Q e

@@ -11,7 +11,7 @@ use Rattle.page_places.proofs.Failing.{store_fails_later}
 use Rattle.page_places.proofs.Outcomes.{match_result}
 use Rattle.plain_tables.specs.Tables.{Tables, EventRow, DerivedRow, CoefRow}
 use Rattle.plain_tables.specs.declared.errors.StoreError.{StoreError}
-use Rattle.run_lines.specs.Runs.{with_head_of}
+use Rattle.page_imports.specs.Runs.{with_head_of}
 use Rattle.run_stores.specs.BookRuns.{Filed, IsOfItsRun, with_filed}
 use Rattle.run_stores.specs.Files.{with_head, with_rows}
 use Rattle.sqlite_disk.specs.declared.Disk.{Ghosts}

@@ -11,3 +11,6 @@ pub mod Showing
 pub mod Small
 pub mod Stepping
 pub mod Unnamed
+pub mod FileInserts
+pub mod RowLines
+pub mod Refusals

@@ -26,7 +26,7 @@ use Rattle.run_stores.specs.BookRuns.{Filed, filed}
 use Rattle.profile_records.specs.declared.kinds.Kind.{Kind}
 use Rattle.page_places.specs.Changes.{AreStorable}
 use Rattle.page_places.specs.Places.{indexes_of}
-use Rattle.run_lines.specs.Fits.{HeadFits, StacksFit}
+use Rattle.page_imports.specs.RowFits.{HeadFits, StacksFit}
 use Rattle.run_lists.specs.Listed.{AreListed}
 use Rattle.run_lists.specs.declared.listed.RunLists.{RunLists}
 use Rattle.run_stores.specs.declared.summed.SummedFile.{SummedFile}

@@ -4,7 +4,7 @@ use Rattle.cost_rows.specs.ByNumber.{numbered_cell}
 use Rattle.cost_rows.specs.Calls.{Calls}
 use Rattle.cost_rows.specs.declared.places.Call.{Call}
 use Rattle.cost_rows.specs.declared.places.CellPlace.{CellPlace}
-use Rattle.run_lines.specs.Fits.{CallFits, CellFits}
+use Rattle.page_imports.specs.RowFits.{CallFits, CellFits}
 
 -- each cost above 0 at a place is that of a cell that fits
 abbrev pub CostsFit : List ℕ → CellPlace × List ℕ → Type 0

@@ -5,3 +5,7 @@ pub mod Imports
 pub mod Names
 pub mod Needs
 pub mod Steps
+pub mod RowFits
+pub mod FromRows
+pub mod Runs
+pub mod Sums

@@ -3,7 +3,7 @@ ghost use Rattle.std.specs.Prelude.{◌≡◌, ◌<◌, ◌++◌, ◌∷◌, [],
 ghost use Rattle.cost_rows.specs.ByNumber.{plain_call};
 ghost use Rattle.cost_rows.specs.Rows.{content_of};
 ghost use Rattle.run_stores.specs.Files.{call_rows};
-ghost use Rattle.run_lines.specs.Fits.{CallFits, RefusesUnless};
+ghost use Rattle.page_imports.specs.RowFits.{CallFits, RefusesUnless};
 ghost use Rattle.page_imports.specs.Fits.{CallsFit, PartsFit};
 ghost use Rattle.page_imports.specs.Lines.{call_line, cost_row, part_row, part_rows};
 

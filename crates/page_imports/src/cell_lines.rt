@@ -3,7 +3,7 @@ ghost use Rattle.std.specs.Prelude.{◌≡◌, ◌<◌, ◌++◌, ◌∷◌, [],
 ghost use Rattle.cost_rows.specs.ByNumber.{numbered_cell, plain_cell_sum};
 ghost use Rattle.cost_rows.specs.Rows.{content_of};
 ghost use Rattle.run_stores.specs.Files.{cell_rows};
-ghost use Rattle.run_lines.specs.Fits.{CellFits, RefusesUnless};
+ghost use Rattle.page_imports.specs.RowFits.{CellFits, RefusesUnless};
 ghost use Rattle.page_imports.specs.Fits.{CellsFit, CostsFit};
 ghost use Rattle.page_imports.specs.Lines.{cell_line, event_row, event_rows, self_row};
 

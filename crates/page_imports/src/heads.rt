@@ -8,7 +8,7 @@ ghost use Rattle.store_schema.specs.Lines.{coef_row, derived_row, event_row, run
 ghost use Rattle.store_schema.specs.Schema.{meta_at, run_at, run_event_at, derived_at, coef_at};
 ghost use Rattle.store_schema.specs.Steps.{IsAbove};
 ghost use Rattle.store_schema.specs.Tables as tables;
-ghost use Rattle.run_lines.specs.Runs.{with_head_of};
+ghost use Rattle.page_imports.specs.Runs.{with_head_of};
 ghost use Rattle.page_imports.specs.Causes.{CanBeWritten, CanPutHeadOf};
 ghost use Rattle.page_imports.specs.Needs.{CanAdd, CanBegin};
 ghost use Rattle.page_imports.specs.Steps.{Makes, PutsLines, head_tables};

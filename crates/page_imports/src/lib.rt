@@ -8,6 +8,10 @@ mod call_lines;
 mod cell_lines;
 // The columns of rows.
 mod columns;
+// The line that a row of a file becomes (specs/FromRows.antt).
+mod file_lines;
+// The lines that the head of a file becomes (specs/Sums.antt).
+mod head_lines;
 // What a run says of itself: the next number, its own row, and the lines of its head.
 mod heads;
 // A file is put in as a run (specs/Imports.antt).
@@ -18,9 +22,14 @@ mod names;
 mod numbering;
 // The lines of self costs and of calls: places in the rows of a file.
 mod row_lines;
+// The lines of all stacks of a file.
+mod row_lists;
 // The rows of a file.
 mod rows;
 // The number of a run, and the numbers of its names in the tables.
 mod run_names;
 
+pub use file_lines::{call_of, cell_of, stack_of};
+pub use head_lines::head_rows;
 pub use imports::put_run;
+pub use row_lists::stack_lines;

@@ -1,7 +1,7 @@
 // Numbers of names, and the new names among them.
 ghost use Rattle.std.specs.Prelude.{◌≡◌, ◌<◌, ◌^◌, ◌∷◌, ◌++◌, [], suc, IfErr, IfOk, OnOk};
 ghost use Rattle.plain_tables.specs.Tables.{Tables};
-ghost use Rattle.run_lines.specs.Fits.{RefusesUnless};
+ghost use Rattle.page_imports.specs.RowFits.{RefusesUnless};
 ghost use Rattle.page_imports.specs.Names.{AreNumbered, IsNextName, NumbersOne, bytes_of};
 
 use line_fills::PageLine;

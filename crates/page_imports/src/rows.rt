@@ -20,7 +20,7 @@ use line_fills::fill;
 use page_files::PageFile;
 use page_places::{IndexPlace, Place, StoreRoots};
 use plain_tables::StoreError;
-use run_lines::stack_lines;
+use crate::row_lists::stack_lines;
 use sqlite_disk::Disk;
 use std::alloc::Global;
 

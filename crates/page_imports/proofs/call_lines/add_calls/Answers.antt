@@ -4,7 +4,7 @@ use Rattle.std.proofs.lemmas.Result.{err_from_is_err_and}
 use Rattle.cost_rows.specs.ByNumber.{plain_call}
 use Rattle.run_stores.specs.Files.{call_rows_from}
 use Rattle.page_imports.specs.Fits.{PartsFit}
-use Rattle.run_lines.proofs.RowLines.{parts_more}
+use Rattle.page_imports.proofs.RowLines.{parts_more}
 use Rattle.page_imports.specs.Lines.{call_line, cost_row, part_row}
 use Rattle.page_imports.proofs.Failing.{refuses_for}
 use Rattle.page_imports.proofs.call_lines.add_calls.Goals as goal

@@ -1,5 +1,5 @@
 use Rattle.std.proofs.Common.{◌≡◌, ◌<◌, OnOk, ◌++◌, rules, false, map, nat_lt, [], ◌∷◌, if◌then◌else◌, sym, subst, lt-ltb, append-nil}
-use Rattle.run_lines.specs.Fits.{CallFits}
+use Rattle.page_imports.specs.RowFits.{CallFits}
 use Rattle.page_imports.specs.Lines.{call_line, part_row}
 use Rattle.page_imports.proofs.Failing.{refuses_for}
 use Rattle.page_imports.proofs.Results.{err_for}

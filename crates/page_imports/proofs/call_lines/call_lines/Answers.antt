@@ -5,7 +5,7 @@ use Rattle.std.proofs.lemmas.Result.{err_from_is_err_and}
 use Rattle.cost_rows.specs.ByNumber.{plain_call}
 use Rattle.cost_rows.specs.declared.numbered.CallSum.{CallSum}
 use Rattle.run_stores.specs.Files.{call_rows}
-use Rattle.run_lines.proofs.RowLines.{rows_drained}
+use Rattle.page_imports.proofs.RowLines.{rows_drained}
 use Rattle.cost_rows.specs.Rows.{content_of}
 use Rattle.page_imports.specs.Fits.{CallsFit, PartsFit}
 use Rattle.page_imports.specs.Lines.{part_rows}

@@ -5,7 +5,7 @@ use Rattle.std.proofs.lemmas.Result.{err_from_is_err_and}
 use Rattle.cost_rows.specs.ByNumber.{plain_cell_sum}
 use Rattle.cost_rows.specs.declared.numbered.CellSum.{CellSum}
 use Rattle.run_stores.specs.Files.{cell_rows}
-use Rattle.run_lines.proofs.RowLines.{rows_drained}
+use Rattle.page_imports.proofs.RowLines.{rows_drained}
 use Rattle.cost_rows.specs.Rows.{content_of}
 use Rattle.page_imports.specs.Fits.{CellsFit, CostsFit}
 use Rattle.page_imports.specs.Lines.{event_rows}

@@ -12,7 +12,7 @@ use Rattle.store_schema.specs.Schema.{schema_two, meta_at, run_at, run_event_at,
 use Rattle.store_schema.specs.Steps.{IsAbove}
 use Rattle.store_schema.specs.declared.table_rows.HeadRows.{HeadRows}
 use Rattle.store_schema.specs.declared.table_rows.RunRow.{RunRow as RunLine}
-use Rattle.run_lines.specs.Runs.{with_head_of}
+use Rattle.page_imports.specs.Runs.{with_head_of}
 use Rattle.sqlite_trees.specs.Tree.{Trees}
 use Rattle.page_imports.specs.Needs.{CanAdd, CanBegin, CanFill}
 use Rattle.page_imports.specs.Steps.{KeepsOthers, head_tables}

@@ -5,10 +5,10 @@ use Rattle.cg_formulas.specs.declared.heads.FileHead.{FileHead}
 use Rattle.cost_rows.specs.Content.{Content}
 use Rattle.plain_tables.specs.Tables.{EventRow}
 use Rattle.run_stores.specs.Heads.{event_row_of, event_rows_from, ColumnFits}
-use Rattle.run_lines.specs.Sums.{AllFit}
+use Rattle.page_imports.specs.Sums.{AllFit}
 use Rattle.store_schema.specs.Lines.{event_row}
-use Rattle.run_lines.proofs.Refusals.{refused_on, refused_memory}
-use Rattle.run_lines.proofs.head_lines.event_rows.Goals as goal
+use Rattle.page_imports.proofs.Refusals.{refused_on, refused_memory}
+use Rattle.page_imports.proofs.head_lines.event_rows.Goals as goal
 
 -- the lines so far, and one more
 lines_more : (run : ℕ) (head : FileHead) (content : Content) (place : ℕ) (names : List (List ℕ)) (name other : List ℕ) (row : EventRow) (rows all : List EventRow) → place < length names

@@ -2,7 +2,7 @@
 ghost use Rattle.std.specs.Prelude.{◌≡◌, map, IfErr, IfOk};
 ghost use Rattle.cost_rows.specs.Rows.{content_of};
 ghost use Rattle.run_stores.specs.Files.{stack_rows};
-ghost use Rattle.run_lines.specs.Fits.{RefusesUnless, StacksFit};
+ghost use Rattle.page_imports.specs.RowFits.{RefusesUnless, StacksFit};
 ghost use Rattle.store_schema.specs.Lines.{stack_row};
 
 use crate::file_lines::stack_of;

@@ -9,7 +9,7 @@ use Rattle.cost_rows.specs.Walks.{counted_stacks}
 use Rattle.plain_tables.specs.declared.errors.StoreError.{StoreError}
 use Rattle.plain_tables.specs.declared.errors.StoreError.TheVariants.{Memory, Store}
 use Rattle.run_stores.specs.Heads.{IsComplete}
-use Rattle.run_lines.specs.Sums.{AllFit}
+use Rattle.page_imports.specs.Sums.{AllFit}
 
 -- the names of a cell have numbers, and its own numbers fit their columns
 pub record CellFits (numbers : List ℕ) (row : CellRow ℕ) : Type 0 where

@@ -6,10 +6,10 @@ use Rattle.cost_rows.specs.Plain.{plain_stack}
 use Rattle.cost_rows.specs.Rows.{content_of}
 use Rattle.cost_rows.specs.Walks.{counted_stacks}
 use Rattle.cost_rows.specs.declared.rows.StackRow.{StackRow}
-use Rattle.run_lines.specs.Fits.{StacksFit}
-use Rattle.run_lines.specs.FromRows.{line_of_stack}
-use Rattle.run_lines.proofs.RowLines.{plain_line_of_stack, rows_drained, rows_of_stacks, stacks_are}
-use Rattle.run_lines.proofs.row_lists.stack_lines.Goals as goal
+use Rattle.page_imports.specs.RowFits.{StacksFit}
+use Rattle.page_imports.specs.FromRows.{line_of_stack}
+use Rattle.page_imports.proofs.RowLines.{plain_line_of_stack, rows_drained, rows_of_stacks, stacks_are}
+use Rattle.page_imports.proofs.row_lists.stack_lines.Goals as goal
 
 pub returns-clause-value : goal.returns-clause-value
 returns-clause-value c =

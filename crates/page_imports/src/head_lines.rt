@@ -2,8 +2,8 @@
 ghost use Rattle.std.specs.Prelude.{◌≡◌, ◌<◌, ◌≤◌, ◌^◌, ◌++◌, ◌∷◌, [], ◌↔◌, map, option_map, string_bytes, slice_index, length, All, IfErr, IfOk, OnOk, IsTrue};
 ghost use Rattle.run_stores.specs.Heads as specs;
 ghost use Rattle.run_stores.specs.Heads.{stated_at, event_row_of, coef_rows_at, derived_rows_from, coef_rows_from, AreStated, IsComplete, ColumnFits};
-ghost use Rattle.run_lines.specs.Fits.{CoefsFit, DerivedFit, HeadFits, RefusesUnless};
-ghost use Rattle.run_lines.specs.Sums.{OfContent, OfColumn, AllFit};
+ghost use Rattle.page_imports.specs.RowFits.{CoefsFit, DerivedFit, HeadFits, RefusesUnless};
+ghost use Rattle.page_imports.specs.Sums.{OfContent, OfColumn, AllFit};
 ghost use Rattle.store_schema.specs.Lines.{event_row, derived_row, coef_row};
 
 use cg_formulas::FileHead;

@@ -1,8 +1,8 @@
 // The lines of the tables that the rows of a file become.
 ghost use Rattle.std.specs.Prelude.{◌≡◌, ◌<◌, ◌≤◌, ◌^◌, ◌↔◌, None, IfSome, length, slice_index_or};
 ghost use Rattle.run_stores.specs.Files.{cell_row_of, call_row_of};
-ghost use Rattle.run_lines.specs.Fits.{CallFits, CellFits};
-ghost use Rattle.run_lines.specs.FromRows.{place_of_cell, call_of_call, line_of_stack};
+ghost use Rattle.page_imports.specs.RowFits.{CallFits, CellFits};
+ghost use Rattle.page_imports.specs.FromRows.{place_of_cell, call_of_call, line_of_stack};
 ghost use Rattle.store_schema.specs.Lines.{cell_row, call_row, stack_row};
 
 use cost_rows::{ArcRow, CellRow, StackRow};

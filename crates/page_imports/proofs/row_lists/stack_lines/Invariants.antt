@@ -1,7 +1,7 @@
 use Rattle.std.proofs.Common.{◌≡◌, map}
-use Rattle.run_lines.specs.FromRows.{line_of_stack}
+use Rattle.page_imports.specs.FromRows.{line_of_stack}
 use Rattle.store_schema.specs.Lines.{stack_row}
-use Rattle.run_lines.proofs.row_lists.stack_lines.Given as goal
+use Rattle.page_imports.proofs.row_lists.stack_lines.Given as goal
 
 -- the lines of the rows so far
 abbrev pub invariant-rows : goal.invariant-rows

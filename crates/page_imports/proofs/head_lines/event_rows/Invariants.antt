@@ -3,7 +3,7 @@ use Rattle.cost_rows.specs.Content.{Content}
 use Rattle.cost_rows.specs.Totals.{AreTotals}
 use Rattle.run_stores.specs.Heads.{event_rows, event_rows_from, ColumnFits}
 use Rattle.store_schema.specs.Lines.{event_row}
-use Rattle.run_lines.proofs.head_lines.event_rows.Given as goal
+use Rattle.page_imports.proofs.head_lines.event_rows.Given as goal
 
 -- the lines so far, and those of the events that are left, are all of them, and the columns so far fit
 abbrev pub invariant-events : goal.invariant-events

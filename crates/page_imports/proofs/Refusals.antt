@@ -2,7 +2,7 @@
 use Rattle.std.proofs.Common.{◌≡◌, Result, Ok, Err, IsErrAnd, IfErr, sym, subst}
 use Rattle.plain_tables.specs.declared.errors.StoreError.{StoreError}
 use Rattle.plain_tables.specs.declared.errors.StoreError.TheVariants.{Memory, Store}
-use Rattle.run_lines.specs.Fits.{RefusesUnless}
+use Rattle.page_imports.specs.RowFits.{RefusesUnless}
 
 refuses_for : (P Q : Type 0) (e : StoreError) → (Q → P) → RefusesUnless P e → RefusesUnless Q e
 refuses_for P Q Memory more refuses = tt

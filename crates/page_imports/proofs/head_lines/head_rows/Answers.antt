@@ -1,8 +1,8 @@
 use Rattle.std.proofs.Common.{◌≤◌, ◌^◌, ℕ, List, All, length, sym, subst}
-use Rattle.run_lines.specs.Fits.{CoefsFit, DerivedFit, HeadFits}
-use Rattle.run_lines.specs.Sums.{AllFit}
-use Rattle.run_lines.proofs.Refusals.{refused_on}
-use Rattle.run_lines.proofs.head_lines.head_rows.Goals as goal
+use Rattle.page_imports.specs.RowFits.{CoefsFit, DerivedFit, HeadFits}
+use Rattle.page_imports.specs.Sums.{AllFit}
+use Rattle.page_imports.proofs.Refusals.{refused_on}
+use Rattle.page_imports.proofs.head_lines.head_rows.Goals as goal
 
 pub returns-in_err-event_rows-clause-refused : goal.returns-in_err-event_rows-clause-refused
 returns-in_err-event_rows-clause-refused c = λ content are.

@@ -1,3 +1,0 @@
-pub mod FileInserts
-pub mod RowLines
-pub mod Refusals

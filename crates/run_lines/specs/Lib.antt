@@ -1,4 +1,0 @@
-pub mod Fits
-pub mod FromRows
-pub mod Runs
-pub mod Sums
