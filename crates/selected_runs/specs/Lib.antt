@@ -2,3 +2,8 @@ pub mod Added
 pub mod Counted
 pub mod EventRuns
 pub mod Selected
+pub mod Named
+pub mod NamedRows
+pub mod Ranked
+pub mod Slots
+pub mod Sums

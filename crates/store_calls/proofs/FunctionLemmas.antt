@@ -24,7 +24,7 @@ use Rattle.run_stores.specs.Book.{cells_held, stacks_held}
 use Rattle.plain_tables.specs.Tables.{Tables}
 use Rattle.profile_records.specs.Records.{Record, Own, Called}
 use Rattle.profile_records.specs.Stacks.{Seen}
-use Rattle.number_sums.specs.NamedRows.{AreCallsOf}
+use Rattle.selected_runs.specs.NamedRows.{AreCallsOf}
 use Rattle.histories.specs.Files.{records_of, stacks_of}
 use Rattle.histories.specs.History.{History, File, held}
 use Rattle.histories.specs.Legal.{expected_of_calls, expected_of_query, first_or, no_name, when}

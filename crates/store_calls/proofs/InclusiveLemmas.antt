@@ -24,8 +24,8 @@ use Rattle.plain_tables.specs.Tables.{Tables, StoredCell, NameRow}
 use Rattle.profile_records.specs.Stacks.{Seen}
 use Rattle.profile_records.specs.declared.kinds.Kind.{Kind}
 use Rattle.profile_records.specs.declared.kinds.Kind.TheVariants.{Callgrind, Folded}
-use Rattle.number_sums.specs.NamedRows.{AreCallsOf}
-use Rattle.number_sums.specs.Sums.{numbers_told}
+use Rattle.selected_runs.specs.NamedRows.{AreCallsOf}
+use Rattle.selected_runs.specs.Sums.{numbers_told}
 use Rattle.run_stores.specs.Lookups.{IsKindOf}
 use Rattle.run_stores.specs.Names.{named_call, AreApart}
 use Rattle.run_stores.specs.Walks.{cell_numbers}

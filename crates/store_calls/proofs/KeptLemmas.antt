@@ -25,7 +25,7 @@ use Rattle.plain_tables.specs.Tables.{StoredCell, NameRow, Tables}
 use Rattle.run_stores.specs.Names.{AreApart, IsNumberOf, named_call}
 use Rattle.run_stores.proofs.Numbers.{number_tells}
 use Rattle.run_stores.specs.Walks.{CallsFoldTo, cell_numbers}
-use Rattle.number_sums.proofs.NamedRowLemmas.{parts_named}
+use Rattle.selected_runs.proofs.NamedRowLemmas.{parts_named}
 use Rattle.selected_runs.specs.declared.counting.Counted.{Counted}
 use Rattle.store_calls.specs.FunctionCalls.{IsTakenFrom, Taken, is_in_cells, is_in_stacks, not_taken, with_call}
 use Rattle.store_calls.specs.KeptCalls.{IsAsked, Keeping, Kept, calls_named, has_numbers, keeps_row, kept_call, kept_of, named_function, other_named, spot_asked, sums_named, taken_named, with_cell_sought, with_kept, with_stack_sought}

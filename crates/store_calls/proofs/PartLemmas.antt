@@ -27,11 +27,11 @@ use Rattle.cost_reports.proofs.KeyLemmas.{parts_where, rows_of_where, same_by_ke
 use Rattle.run_stores.specs.Book.{name_of, IsHeld}
 use Rattle.plain_tables.specs.Tables.{NameRow}
 use Rattle.run_stores.specs.Names.{named_call, named_cell, AreApart}
-use Rattle.number_sums.specs.Sums.{SumsByNumber, number_rows, numbers_cmp, numbers_part, numbers_told, numbers_with, told}
-use Rattle.number_sums.specs.declared.parts.NumberPart.{NumberPart}
-use Rattle.number_sums.proofs.NamedSums.{row_more}
-use Rattle.number_sums.proofs.NumberLemmas.{numbers_cmp_apart}
-use Rattle.number_sums.proofs.ToldLemmas.{told_all, told_each}
+use Rattle.selected_runs.specs.Sums.{SumsByNumber, number_rows, numbers_cmp, numbers_part, numbers_told, numbers_with, told}
+use Rattle.selected_runs.specs.declared.parts.NumberPart.{NumberPart}
+use Rattle.selected_runs.proofs.NamedSums.{row_more}
+use Rattle.selected_runs.proofs.NumberLemmas.{numbers_cmp_apart}
+use Rattle.selected_runs.proofs.ToldLemmas.{told_all, told_each}
 use Rattle.store_calls.specs.InclusiveParts.{PartSums, AreHeld, called_cell, caller_cell, costs_named, is_of_itself, with_calls, with_function, with_self_costs, with_stacks}
 
 -- ---- rows more

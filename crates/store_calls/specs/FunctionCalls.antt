@@ -12,7 +12,7 @@ use Rattle.report_texts.specs.Inclusive.{is_frame}
 use Rattle.report_texts.specs.declared.call_sides.CallSide.{CallSide}
 use Rattle.run_stores.specs.Book.{cells_held, stacks_held}
 use Rattle.plain_tables.specs.Tables.{Tables}
-use Rattle.number_sums.specs.NamedRows.{AreCallsOf}
+use Rattle.selected_runs.specs.NamedRows.{AreCallsOf}
 use Rattle.histories.specs.declared.answers.Answer.{Answer}
 use Rattle.requests.specs.Plain.{Selection}
 use Rattle.histories.specs.FromTables.{AnswersBy, text_or_no_name}

@@ -11,8 +11,8 @@ use Rattle.report_texts.specs.Inclusive.{InclusiveCosts, no_costs, with_stack}
 use Rattle.run_stores.specs.Book.{IsHeld}
 use Rattle.plain_tables.specs.Tables.{Tables, NameRow}
 use Rattle.run_stores.specs.Names.{named_cell, AreAmong}
-use Rattle.number_sums.specs.Sums.{number_rows, numbers_told, with_number}
-use Rattle.number_sums.specs.declared.parts.NumberPart.{NumberPart}
+use Rattle.selected_runs.specs.Sums.{number_rows, numbers_told, with_number}
+use Rattle.selected_runs.specs.declared.parts.NumberPart.{NumberPart}
 use Rattle.store_calls.specs.declared.inclusive_parts.InclusiveParts.{InclusiveParts}
 
 -- what was added: by the numbers of functions, by those of called functions, and of stacks

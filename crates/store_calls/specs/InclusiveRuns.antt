@@ -12,11 +12,11 @@ use Rattle.run_stores.specs.Book.{cells_held, stacks_held, IsHeld}
 use Rattle.plain_tables.specs.Tables.{Tables, NameRow}
 use Rattle.profile_records.specs.declared.kinds.Kind.{Kind}
 use Rattle.profile_records.specs.declared.kinds.Kind.TheVariants.{Callgrind, Folded}
-use Rattle.number_sums.specs.NamedRows.{AreCallsOf}
+use Rattle.selected_runs.specs.NamedRows.{AreCallsOf}
 use Rattle.run_stores.specs.Lookups.{IsKindOf}
 use Rattle.run_stores.specs.Names.{AreApart}
-use Rattle.number_sums.specs.Named.{AreOf}
-use Rattle.number_sums.specs.Sums.{numbers_told}
+use Rattle.selected_runs.specs.Named.{AreOf}
+use Rattle.selected_runs.specs.Sums.{numbers_told}
 use Rattle.histories.specs.declared.answers.Answer.{Answer}
 use Rattle.requests.specs.Plain.{Selection}
 use Rattle.histories.specs.FromTables.{AnswersBy, ShowsText}

@@ -1,10 +1,10 @@
 // Inclusive costs in two parts, which are one when all runs were added.
 ghost use Rattle.std.specs.Prelude.{◌≡◌, ◌≤◌};
 ghost use Rattle.cost_rows.specs.declared.keys.Key.TheVariants.{Function};
-ghost use Rattle.number_sums.specs.Sums.{numbers_total};
+ghost use Rattle.selected_runs.specs.Sums.{numbers_total};
 
 use cost_reports::FrameSums;
-use number_sums::NumberSums;
+use selected_runs::NumberSums;
 
 /// What functions cost with all that they call, in two parts: the rows of Callgrind runs have the numbers of names,
 /// and are added up by these; the frames of folded runs have none.

@@ -2,14 +2,14 @@
 ghost use Rattle.std.specs.Prelude.{◌≡◌, List, flat_map, IfOk};
 ghost use Rattle.report_texts.specs.Calls.{calls_of_row};
 ghost use Rattle.plain_tables.specs.Tables.{NameRow};
-ghost use Rattle.number_sums.specs.Named.{AreOf};
+ghost use Rattle.selected_runs.specs.Named.{AreOf};
 ghost use Rattle.store_calls.specs.KeptCalls.{call_numbers, calls_named, kept_of, spot_asked, sums_named};
 
 use crate::asked_functions::AskedFunction;
 use crate::kept_rows::{KeptCall, KeptCalls};
 use cost_reports::CallSums;
 use cost_rows::ArcRow;
-use number_sums::held_name;
+use selected_runs::held_name;
 use report_texts::CallSide;
 use run_stores::{NameTable, StoreError};
 use std::alloc::{AllocError, Global};

@@ -7,17 +7,16 @@ ghost use Rattle.cost_rows.specs.declared.keys.Key.TheVariants.{Function};
 ghost use Rattle.report_texts.specs.Pairs.{AreBelow};
 ghost use Rattle.plain_tables.specs.Tables.{NameRow};
 ghost use Rattle.run_stores.specs.Book.{IsHeld};
-ghost use Rattle.number_sums.specs.Named.{AreOf};
-ghost use Rattle.number_sums.specs.Sums.{numbers_told, numbers_total};
+ghost use Rattle.selected_runs.specs.Named.{AreOf};
+ghost use Rattle.selected_runs.specs.Sums.{numbers_told, numbers_total};
 ghost use Rattle.store_calls.specs.InclusiveParts.{costs_named, none_added, sums_in, with_calls, with_self_costs, with_stacks};
 
 use crate::inclusive_parts::InclusiveParts;
 use cg_text::ListVec;
 use cost_reports::{FrameSums, InclusiveSums};
 use cost_rows::{ArcRow, CellRow, Key, StackRow};
-use number_sums::NumberSums;
+use selected_runs::{NumberSums, is_within};
 use run_stores::{NameTable, StoreError};
-use selected_runs::is_within;
 use std::alloc::{AllocError, Global};
 
 impl InclusiveParts {

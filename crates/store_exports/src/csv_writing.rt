@@ -16,10 +16,9 @@ ghost use Rattle.store_exports.specs.CsvRuns.{AddsRun, AreSums, IsCsv, csv_asked
 use crate::sinks::NamedRows;
 use cost_exports::{CellSums, csv_text};
 use histories::{Answer, Refusal};
-use number_sums::each_named_cell;
+use selected_runs::{RunFold, each_named_cell, fold_runs, select_runs};
 use requests::Selection;
 use run_stores::{RunStore, StoreError};
-use selected_runs::{RunFold, fold_runs, select_runs};
 use shared_texts::SharedText;
 use std::alloc::{AllocError, Global};
 

@@ -13,8 +13,8 @@ use Rattle.plain_tables.specs.RunRows.{cells_in}
 use Rattle.plain_tables.specs.Tables.{Tables, StoredCell, NameRow}
 use Rattle.run_stores.specs.Names.{named_cell}
 use Rattle.run_stores.specs.Walks.{cell_numbers}
-use Rattle.number_sums.specs.Sums.{SumsByNumber, number_rows, with_number}
-use Rattle.number_sums.proofs.NamedSums.{named_at_the_end, rows_keep_key}
+use Rattle.selected_runs.specs.Sums.{SumsByNumber, number_rows, with_number}
+use Rattle.selected_runs.proofs.NamedSums.{named_at_the_end, rows_keep_key}
 use Rattle.store_reports.specs.Compared.{costs_over, named_sums}
 use Rattle.selected_runs.specs.Counted.{event_cells}
 use Rattle.store_reports.specs.Reported.{numbers_from, weighted_numbers}

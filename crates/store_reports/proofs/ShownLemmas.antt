@@ -14,14 +14,14 @@ use Rattle.cost_reports.proofs.EnoughLemmas.{same_total}
 use Rattle.run_stores.specs.Book.{IsHeld}
 use Rattle.plain_tables.specs.Tables.{Tables, NameRow}
 use Rattle.run_stores.specs.Names.{AreApart, named_cell}
-use Rattle.number_sums.specs.Named.{AreOf, named_sum}
-use Rattle.number_sums.specs.Ranked.{SumsByCost}
-use Rattle.number_sums.specs.Sums.{SumsByNumber, numbers_told, numbers_total, with_number}
-use Rattle.number_sums.specs.declared.parts.NumberPart.{NumberPart}
-use Rattle.number_sums.proofs.EnoughNamed.{enough_named}
-use Rattle.number_sums.proofs.NamedLemmas.{named_by_all}
-use Rattle.number_sums.proofs.OnceNamed.{once_named}
-use Rattle.number_sums.proofs.ToldLemmas.{told_moved}
+use Rattle.selected_runs.specs.Named.{AreOf, named_sum}
+use Rattle.selected_runs.specs.Ranked.{SumsByCost}
+use Rattle.selected_runs.specs.Sums.{SumsByNumber, numbers_told, numbers_total, with_number}
+use Rattle.selected_runs.specs.declared.parts.NumberPart.{NumberPart}
+use Rattle.selected_runs.proofs.EnoughNamed.{enough_named}
+use Rattle.selected_runs.proofs.NamedLemmas.{named_by_all}
+use Rattle.selected_runs.proofs.OnceNamed.{once_named}
+use Rattle.selected_runs.proofs.ToldLemmas.{told_moved}
 use Rattle.selected_runs.specs.declared.counting.Counted.{Counted}
 use Rattle.store_reports.specs.Reported.{AreShown, numbers_from, report_over}
 use Rattle.store_reports.proofs.MergeLemmas.{key_is, numbers_of, runs_named, sums_are}

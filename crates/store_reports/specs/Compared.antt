@@ -9,7 +9,7 @@ use Rattle.report_texts.specs.Differences.{difference_of, difference_text}
 use Rattle.plain_tables.specs.Tables.{Tables, NameRow}
 use Rattle.run_stores.specs.Lookups.{IsBaselineOf}
 use Rattle.run_stores.specs.Names.{named_cell}
-use Rattle.number_sums.specs.Sums.{SumsByNumber, number_rows}
+use Rattle.selected_runs.specs.Sums.{SumsByNumber, number_rows}
 use Rattle.histories.specs.History.{History}
 use Rattle.histories.specs.Legal.{files_of, no_second}
 use Rattle.histories.specs.Selections.{numbers_of}

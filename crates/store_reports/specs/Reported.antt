@@ -13,9 +13,9 @@ use Rattle.run_stores.specs.Book.{IsHeld}
 use Rattle.plain_tables.specs.RunRows.{cells_in}
 use Rattle.plain_tables.specs.Tables.{Tables}
 use Rattle.run_stores.specs.Walks.{cell_numbers}
-use Rattle.number_sums.specs.Ranked.{SumsByCost}
-use Rattle.number_sums.specs.declared.parts.NumberPart.{NumberPart}
-use Rattle.number_sums.specs.Sums.{SumsByNumber, numbers_told, numbers_total, with_number}
+use Rattle.selected_runs.specs.Ranked.{SumsByCost}
+use Rattle.selected_runs.specs.declared.parts.NumberPart.{NumberPart}
+use Rattle.selected_runs.specs.Sums.{SumsByNumber, numbers_told, numbers_total, with_number}
 use Rattle.histories.specs.declared.answers.Answer.{Answer}
 use Rattle.histories.specs.declared.answers.Answer.TheVariants.{Text}
 use Rattle.requests.specs.Plain.{Selection}

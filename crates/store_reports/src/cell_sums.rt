@@ -8,7 +8,7 @@ ghost use Rattle.run_stores.specs.Calls.{Told, AsksIfOpen};
 ghost use Rattle.store_reports.specs.CellSums.{AreOfCells};
 
 use cost_rows::CellRow;
-use number_sums::{NamedCellSink, each_named_cell};
+use selected_runs::{NamedCellSink, each_named_cell};
 use run_stores::{RunStore, StoreError};
 use std::alloc::Global;
 

@@ -1,8 +1,7 @@
 // The cells of runs, added up by key in the event that is asked.
 use cost_rows::CellRow;
-use number_sums::NumberSums;
+use selected_runs::{NumberSums, cost_within, times_of};
 use run_stores::{CellSink, StoreError};
-use selected_runs::{cost_within, times_of};
 
 /// Sums by key, and how often each column of the run that is read counts in the event.
 #[derive(Drop)]
@@ -13,7 +12,7 @@ pub(crate) struct EventSums<'a> {
 
 impl CellSink for EventSums<'_> {
     ghost use Rattle.std.specs.Prelude.{List, ℕ};
-    ghost use Rattle.number_sums.specs.Sums.{SumsByNumber, with_number};
+    ghost use Rattle.selected_runs.specs.Sums.{SumsByNumber, with_number};
     ghost use Rattle.store_reports.specs.Reported.{weighted_numbers};
 
     ghost Meaning = { List ℕ × SumsByNumber };

@@ -5,7 +5,7 @@ use Rattle.plain_tables.specs.RunRows.{calls_in, cells_in}
 use Rattle.run_stores.specs.Book.{cell_held}
 use Rattle.store_calls.specs.InclusiveParts.{Counting, AreHeld, costs_named, sums_in, with_call_row}
 use Rattle.store_calls.specs.InclusiveRuns.{call_rows, self_rows}
-use Rattle.number_sums.proofs.NamedRowLemmas.{parts_named}
+use Rattle.selected_runs.proofs.NamedRowLemmas.{parts_named}
 use Rattle.store_calls.proofs.InclusiveLemmas.{both_taken}
 use Rattle.store_calls.proofs.including.add_callgrind.Goals as goal
 

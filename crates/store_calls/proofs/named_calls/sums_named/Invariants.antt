@@ -1,7 +1,7 @@
 use Rattle.std.proofs.Common.{◌≡◌, ◌+◌, ◌<◌, ◌^◌, List, drop, map, take, sum_by}
 use Rattle.report_texts.specs.Pairs.{firsts_of, pairs_by, seconds_of}
 use Rattle.plain_tables.specs.Tables.{NameRow}
-use Rattle.number_sums.specs.Named.{AreOf}
+use Rattle.selected_runs.specs.Named.{AreOf}
 use Rattle.store_calls.specs.KeptCalls.{other_named, spot_asked}
 use Rattle.store_calls.specs.declared.kept_rows.KeptCall.{KeptCall}
 use Rattle.store_calls.proofs.named_calls.sums_named.Given as goal

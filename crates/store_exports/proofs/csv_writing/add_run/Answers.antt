@@ -4,7 +4,7 @@ use Rattle.run_stores.proofs.Calls.{asked_reads}
 use Rattle.plain_tables.specs.RunRows.{cells_in}
 use Rattle.report_texts.specs.Csv.{with_cell_in}
 use Rattle.run_stores.specs.Walks.{IsOfAnEvent}
-use Rattle.number_sums.proofs.Walks.{cells_come}
+use Rattle.selected_runs.proofs.Walks.{cells_come}
 use Rattle.run_stores.specs.Book.{cells_held}
 use Rattle.store_exports.proofs.CsvLemmas.{cells_taken}
 use Rattle.store_exports.proofs.csv_writing.add_run.Goals as goal

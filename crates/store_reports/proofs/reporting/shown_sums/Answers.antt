@@ -1,8 +1,8 @@
 use Rattle.std.proofs.Common.{◌≡◌, ◌≤◌, ◌∙◌, length, sym, subst, arith, IsPermutation}
 use Rattle.std.specs.List.{AllByRecursion}
 use Rattle.run_stores.specs.Book.{IsHeld}
-use Rattle.number_sums.specs.Sums.{numbers_total}
-use Rattle.number_sums.proofs.EnoughLemmas.{total_moved}
+use Rattle.selected_runs.specs.Sums.{numbers_total}
+use Rattle.selected_runs.proofs.EnoughLemmas.{total_moved}
 use Rattle.store_reports.proofs.ShownLemmas.{held_of_all}
 use Rattle.store_reports.proofs.reporting.shown_sums.Goals as goal
 

@@ -1,5 +1,5 @@
 use Rattle.run_stores.proofs.Calls.{asked_reads_yet}
-use Rattle.number_sums.specs.Named.{AreOf}
+use Rattle.selected_runs.specs.Named.{AreOf}
 use Rattle.store_reports.proofs.ShownLemmas.{report_shown}
 use Rattle.store_reports.proofs.MergeLemmas.{both_so}
 use Rattle.store_reports.proofs.reporting.shown_text.Goals as goal

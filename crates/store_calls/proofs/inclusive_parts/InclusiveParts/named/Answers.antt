@@ -3,7 +3,7 @@ use Rattle.std.specs.List.{AllByRecursion}
 use Rattle.cost_rows.specs.KeySums.{sums_by}
 use Rattle.run_stores.specs.Book.{IsHeld}
 use Rattle.run_stores.specs.Names.{named_cell}
-use Rattle.number_sums.specs.Sums.{number_rows, numbers_told}
+use Rattle.selected_runs.specs.Sums.{number_rows, numbers_told}
 use Rattle.store_calls.proofs.PartLemmas.{parts_added}
 use Rattle.store_calls.proofs.inclusive_parts.InclusiveParts.named.Goals as goal
 

@@ -1,7 +1,0 @@
-use Rattle.std.proofs.Common.{◌≡◌, ◌++◌}
-use Rattle.number_sums.specs.Sums.{numbers_told}
-use Rattle.number_sums.proofs.numbers.numbers_of.Given as goal
-
--- the numbers so far, and those of the sums to come
-abbrev pub invariant-loop-part : goal.invariant-loop-part
-invariant-loop-part l = l.numbers.items ++ numbers_told l.key l.part-iterator ≡ numbers_told l.key l.sums
