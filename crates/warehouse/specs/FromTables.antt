@@ -22,9 +22,9 @@ use Rattle.store_commands.specs.FromTables.{IsImported}
 use Rattle.histories.specs.declared.limits.Limits.{Limits}
 use Rattle.store_commands.specs.Changes.{GroupsIn, RemovesIn}
 use Rattle.store_commands.specs.Lists.{IsListOfGroups, IsListOfRuns}
-use Rattle.store_exports.specs.Annotated.{IsAnnotated}
-use Rattle.store_exports.specs.CsvRuns.{IsCsv}
-use Rattle.store_exports.specs.FoldedRuns.{IsFolded}
+use Rattle.store_reports.specs.Annotated.{IsAnnotated}
+use Rattle.store_reports.specs.CsvRuns.{IsCsv}
+use Rattle.store_reports.specs.FoldedRuns.{IsFolded}
 use Rattle.histories.specs.FromTables.{OrFailed, ShowsText, WasChangedIn}
 use Rattle.store_reports.specs.Checked.{IsVerified}
 use Rattle.store_reports.specs.Compared.{IsSubtracted}

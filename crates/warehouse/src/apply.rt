@@ -25,7 +25,7 @@ use run_stores::RunStore;
 use std::alloc::{AllocError, Global};
 use std::collections::VecDeque;
 use store_commands::{GroupChange, change_in, import_parsed, label_of, remove_in};
-use store_exports::csv_sums;
+use store_reports::csv_sums;
 
 impl<S: RunStore> Warehouse<S> {
     /// Imports the file that a source gives, a piece at a time. The source is read to its end even

@@ -8,7 +8,7 @@ use Rattle.histories.proofs.ReadsExpected.{ended_expected}
 use Rattle.histories.specs.Answered.{Answers, WasAsked}
 use Rattle.histories.specs.FromTables.{OrFailed}
 use Rattle.histories.proofs.Questions.{answered_as, or_failed}
-use Rattle.store_exports.specs.Annotated.{IsAnnotated}
+use Rattle.store_reports.specs.Annotated.{IsAnnotated}
 use Rattle.warehouse.specs.Answered.{IsShort}
 use Rattle.warehouse.proofs.GivenLemmas.{kept_asked, short_for}
 use Rattle.warehouse.proofs.Unread.{unread_answered, unread_short}

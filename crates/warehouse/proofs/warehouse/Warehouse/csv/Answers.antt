@@ -5,7 +5,7 @@ use Rattle.requests.specs.Plain.{plain_selection}
 use Rattle.requests.specs.declared.queries.Query.TheVariants.{Csv}
 use Rattle.histories.specs.declared.answers.Refusal.{Refusal}
 use Rattle.histories.specs.Answered.{AnswersAsked}
-use Rattle.store_exports.specs.CsvRuns.{csv_given}
+use Rattle.store_reports.specs.CsvRuns.{csv_given}
 use Rattle.warehouse.specs.FromTables.{AnswersIn}
 use Rattle.warehouse.proofs.GivenLemmas.{one_answered, sums_answered}
 use Rattle.warehouse.proofs.warehouse.Warehouse.csv.Goals as goal

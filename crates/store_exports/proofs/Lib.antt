@@ -1,3 +1,0 @@
-mod AnnotateLemmas
-mod CsvLemmas
-mod FoldedLemmas

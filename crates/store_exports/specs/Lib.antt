@@ -1,3 +1,0 @@
-pub mod Annotated
-pub mod CsvRuns
-pub mod FoldedRuns
