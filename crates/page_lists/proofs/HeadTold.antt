@@ -5,10 +5,10 @@ use Rattle.cg_formulas.specs.declared.heads.FileHead.{FileHead}
 use Rattle.plain_tables.specs.Changes.{has_run}
 use Rattle.plain_tables.specs.Tables.{Tables, RunRow, EventRow, DerivedRow, CoefRow}
 use Rattle.run_stores.specs.HeldHeads.{IsHeadIn, coef_of_line, event_of_line, name_of_line}
-use Rattle.held_lines.specs.HeadLines.{IsReadFrom, derived_place, entry_of_coef, entry_of_event}
-use Rattle.held_lines.specs.declared.head_lines.HeadEvent.{HeadEvent}
-use Rattle.held_lines.specs.declared.head_lines.HeadDerived.{HeadDerived}
-use Rattle.held_lines.specs.declared.head_lines.HeadCoef.{HeadCoef}
+use Rattle.run_lists.specs.HeadLines.{IsReadFrom, derived_place, entry_of_coef, entry_of_event}
+use Rattle.run_lists.specs.declared.head_lines.HeadEvent.{HeadEvent}
+use Rattle.run_lists.specs.declared.head_lines.HeadDerived.{HeadDerived}
+use Rattle.run_lists.specs.declared.head_lines.HeadCoef.{HeadCoef}
 use Rattle.run_lists.specs.Listed.{AreListed, run_row, coef_row, derived_row, event_row}
 use Rattle.run_lists.specs.declared.listed.RunLists.{RunLists}
 use Rattle.run_lists.specs.declared.listed.ListedRun.{ListedRun}

@@ -5,8 +5,8 @@ use Rattle.sqlite_value.specs.Order.{Row, column}
 use Rattle.plain_tables.specs.Tables.{NameRow}
 use Rattle.store_schema.specs.Names.{SaysName, SayNames, number_read}
 use Rattle.store_schema.specs.Tables.{name_columns, number}
-use Rattle.held_lines.specs.NameRows.{name_row}
-use Rattle.held_lines.specs.declared.held_names.HeldName.{HeldName}
+use Rattle.run_lists.specs.NameRows.{name_row}
+use Rattle.run_lists.specs.declared.held_names.HeldName.{HeldName}
 use Rattle.page_lists.proofs.Said.{read_as_said}
 
 one_name : (a b : NameRow) → name_columns a ≡ name_columns b → a ≡ b

@@ -4,7 +4,7 @@ use Rattle.plain_tables.specs.Tables.{Tables}
 use Rattle.prof_store.specs.Readings.{RowsSay}
 use Rattle.prof_store.proofs.Readings.{names_said}
 use Rattle.prof_store.proofs.Told.{said}
-use Rattle.held_lines.proofs.Apart.{apart_named}
+use Rattle.run_lists.proofs.Apart.{apart_named}
 use Rattle.run_stores.specs.Names.{AreApart}
 use Rattle.page_places.specs.Stores.{HoldsNames}
 

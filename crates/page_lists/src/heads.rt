@@ -3,13 +3,12 @@ ghost use Rattle.std.specs.Prelude.{◌≡◌, ◌==◌, map, filter, option_map
 ghost use Rattle.std.specs.List.{list_any};
 ghost use Rattle.plain_tables.specs.Tables.{Tables, EventRow, DerivedRow, CoefRow};
 ghost use Rattle.run_stores.specs.HeldHeads.{IsHeadIn, coef_of_line, event_of_line, name_of_line};
-ghost use Rattle.held_lines.specs.HeadLines.{derived_place, entry_of_coef, entry_of_event};
+ghost use Rattle.run_lists.specs.HeadLines.{derived_place, entry_of_coef, entry_of_event};
 ghost use Rattle.run_lists.specs.Listed.{AreListed, coef_row, derived_row, event_row};
 
 use cg_formulas::FileHead;
-use held_lines::{HeadCoef, HeadDerived, HeadEvent, head_in};
+use run_lists::{HeadCoef, HeadDerived, HeadEvent, ListedCoef, ListedDerived, ListedEvent, ListedRun, RunLists, head_in};
 use plain_tables::StoreError;
-use run_lists::{ListedCoef, ListedDerived, ListedEvent, ListedRun, RunLists};
 use std::alloc::Global;
 
 /// Whether a run of this number is listed.

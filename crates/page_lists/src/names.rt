@@ -18,7 +18,7 @@ use crate::listing::all_rows;
 use crate::records::FromRecord;
 use crate::small::key_of;
 use crate::some_rows::rows_among;
-use held_lines::{HeldName, HeldNames};
+use run_lists::{HeldName, HeldNames};
 use page_files::PageFile;
 use plain_tables::StoreError;
 use sqlite_disk::Disk;
@@ -39,7 +39,7 @@ pub(crate) fn name_in(rowid: i64, payload: &[u8]) -> Result<(u32, &[u8]), OutOfF
 }
 
 impl FromRecord for HeldName {
-    ghost use Rattle.held_lines.specs.NameRows.{name_row};
+    ghost use Rattle.run_lists.specs.NameRows.{name_row};
     ghost use Rattle.store_schema.specs.Tables.{name_columns};
 
     ghost seen = { λ row. row };

@@ -14,7 +14,7 @@ use Rattle.plain_tables.proofs.Lists.{all_has}
 use Rattle.sqlite_value.specs.Order.{Row}
 use Rattle.store_schema.specs.Names.{SaysName, SayNames, number_if_held, number_read}
 use Rattle.store_schema.proofs.Names.{is_held, not_held, row_of_name}
-use Rattle.held_lines.proofs.NumbersOfNames.{IsOther, none_named}
+use Rattle.run_lists.proofs.NumbersOfNames.{IsOther, none_named}
 use Rattle.page_lists.specs.Among.{Rise, id_of, integer}
 
 module _ (far : ℕ → ℕ) (is_far : (n : ℕ) → 2 ^ 64 ≤ far n) (n : ℕ) (low : n < 2 ^ 64) where

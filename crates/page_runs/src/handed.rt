@@ -9,7 +9,7 @@ ghost use Rattle.store_schema.specs.Tables.{number, cell_columns, arc_columns, s
 use crate::kept::Gathered;
 use crate::run_rows::{Added, LineSink};
 use cost_rows::CellRow;
-use held_lines::{CallLines, CellLines, StackLines};
+use run_lists::{CallLines, CellLines, StackLines};
 use page_lists::{copied_in, end_of, number_in, whole_in};
 use plain_tables::StoreError;
 use run_stores::{CallSink, CellSink, StackRowSink};
@@ -90,7 +90,7 @@ impl<T: CellSink + Drop> LineSink for GatheredLines<T> {
     ghost use Rattle.std.specs.Prelude.{ℕ};
     ghost use Rattle.plain_tables.specs.Tables.{StoredCell as Cell};
     ghost use Rattle.store_schema.specs.Tables.{cell_columns};
-    ghost use Rattle.held_lines.specs.HeldCells.{HasTakenCellLines};
+    ghost use Rattle.run_lists.specs.HeldCells.{HasTakenCellLines};
     ghost use Rattle.page_runs.specs.Kept.{HasGathered};
 
     ghost Line = { Cell };
@@ -121,7 +121,7 @@ impl<T: CallSink + Drop> LineSink for CallLines<T> {
     ghost use Rattle.std.specs.Prelude.{ℕ};
     ghost use Rattle.plain_tables.specs.Tables.{StoredCall as Call};
     ghost use Rattle.store_schema.specs.Tables.{arc_columns};
-    ghost use Rattle.held_lines.specs.HeldCalls.{HasTakenCallLines};
+    ghost use Rattle.run_lists.specs.HeldCalls.{HasTakenCallLines};
 
     ghost Line = { Call };
 
@@ -156,7 +156,7 @@ pub(crate) struct CopiedStacks<T> {
 impl<T: StackRowSink + Drop> LineSink for CopiedStacks<T> {
     ghost use Rattle.plain_tables.specs.Tables.{StoredStack as Stack};
     ghost use Rattle.store_schema.specs.Tables.{stack_columns};
-    ghost use Rattle.held_lines.specs.HeldStacks.{HasTakenStackLines};
+    ghost use Rattle.run_lists.specs.HeldStacks.{HasTakenStackLines};
 
     ghost Line = { Stack };
 

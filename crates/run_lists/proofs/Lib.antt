@@ -8,3 +8,10 @@ pub mod HeldRuns
 pub mod Joining
 pub mod PartSums
 pub mod RunSums
+pub mod Apart
+pub mod CallRows
+pub mod HeadReading
+pub mod NameLists
+pub mod NumbersOfNames
+pub mod RowSteps
+pub mod Steps

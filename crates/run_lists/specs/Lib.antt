@@ -4,3 +4,8 @@ pub mod Listed
 pub mod RowSums
 pub mod RunLines
 pub mod Sums
+pub mod HeadLines
+pub mod HeldCalls
+pub mod HeldCells
+pub mod HeldStacks
+pub mod NameRows

@@ -1,7 +1,7 @@
 use Rattle.std.proofs.Common.{◌==◌, arith}
 use Rattle.plain_tables.specs.Tables.{CoefRow}
 use Rattle.run_stores.specs.HeldHeads.{coef_of_line}
-use Rattle.held_lines.specs.HeadLines.{entry_of_coef}
+use Rattle.run_lists.specs.HeadLines.{entry_of_coef}
 use Rattle.run_lists.specs.Listed.{coef_row}
 use Rattle.page_lists.proofs.HeadLists.{all_kept}
 use Rattle.page_lists.proofs.heads.coefs_of.Goals as goal

@@ -3,9 +3,9 @@ use Rattle.std.proofs.lemmas.Bool.{eq-eqb, ne_eqb}
 use Rattle.std.proofs.lemmas.Result.{IfOk-from_err}
 use Rattle.plain_tables.specs.Tables.{DerivedRow}
 use Rattle.run_stores.specs.HeldHeads.{PlacedName, name_of_line}
-use Rattle.held_lines.specs.HeadLines.{derived_place}
+use Rattle.run_lists.specs.HeadLines.{derived_place}
 use Rattle.run_lists.specs.Listed.{derived_row}
-use Rattle.held_lines.specs.declared.head_lines.HeadDerived.{HeadDerived}
+use Rattle.run_lists.specs.declared.head_lines.HeadDerived.{HeadDerived}
 use Rattle.page_lists.proofs.HeadLists.{all_kept, next_kept, next_passed}
 use Rattle.page_lists.proofs.heads.derived_of.Goals.{then-event-run+in_ok-name+else-is_err, else-event-run}
 use Rattle.page_lists.proofs.heads.derived_of.Goals as goal

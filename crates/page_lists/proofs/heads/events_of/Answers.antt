@@ -3,9 +3,9 @@ use Rattle.std.proofs.lemmas.Bool.{eq-eqb, ne_eqb}
 use Rattle.std.proofs.lemmas.Result.{IfOk-from_err}
 use Rattle.plain_tables.specs.Tables.{EventRow}
 use Rattle.run_stores.specs.HeldHeads.{event_of_line}
-use Rattle.held_lines.specs.HeadLines.{entry_of_event}
+use Rattle.run_lists.specs.HeadLines.{entry_of_event}
 use Rattle.run_lists.specs.Listed.{event_row}
-use Rattle.held_lines.specs.declared.head_lines.HeadEvent.{HeadEvent}
+use Rattle.run_lists.specs.declared.head_lines.HeadEvent.{HeadEvent}
 use Rattle.page_lists.proofs.HeadLists.{all_kept, next_kept, next_passed}
 use Rattle.page_lists.proofs.heads.events_of.Goals.{then-event-run+in_ok-line+else-is_err, else-event-run}
 use Rattle.page_lists.proofs.heads.events_of.Goals as goal

@@ -2,8 +2,8 @@ use Rattle.std.proofs.Common.{◌==◌, ℕ, map, sym, subst, ◌∙◌, IsPermu
 use Rattle.std.proofs.lemmas.Result.{err_from_is_err_and, IfOk-weaker}
 use Rattle.plain_tables.specs.Tables.{EventRow, DerivedRow, CoefRow}
 use Rattle.run_stores.specs.HeldHeads.{coef_of_line, event_of_line, name_of_line}
-use Rattle.held_lines.specs.HeadLines.{derived_place, entry_of_coef, entry_of_event}
-use Rattle.held_lines.proofs.HeadReading.{read_from_same}
+use Rattle.run_lists.specs.HeadLines.{derived_place, entry_of_coef, entry_of_event}
+use Rattle.run_lists.proofs.HeadReading.{read_from_same}
 use Rattle.run_lists.specs.Listed.{coef_row, derived_row, event_row}
 use Rattle.page_lists.proofs.HeadLists.{kept_same}
 use Rattle.page_lists.proofs.HeadTold.{run_held, head_told}

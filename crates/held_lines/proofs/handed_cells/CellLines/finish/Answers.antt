@@ -1,4 +1,0 @@
-use Rattle.held_lines.proofs.handed_cells.CellLines.finish.Goals as goal
-
-pub returns : goal.returns
-returns g c events start lines was = was.folded

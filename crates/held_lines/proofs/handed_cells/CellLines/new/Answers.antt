@@ -1,6 +1,0 @@
-use Rattle.std.proofs.Common.{refl}
-use Rattle.held_lines.proofs.RowSteps.{no_cell}
-use Rattle.held_lines.proofs.handed_cells.CellLines.new.Goals as goal
-
-pub returns : goal.returns
-returns g c = record { events_same = refl; folded = no_cell c.args.events g.T.CellSink.step (g.T.CellSink.meaning c.args.sink) }

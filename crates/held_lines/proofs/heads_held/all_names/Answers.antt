@@ -1,6 +1,0 @@
-use Rattle.std.proofs.Common.{◌∙◌, sym, append-nil}
-use Rattle.held_lines.proofs.HeadReading.{names_of_places}
-use Rattle.held_lines.proofs.heads_held.all_names.Goals as goal
-
-pub derived-init : goal.derived-init
-derived-init c = names_of_places c.args.events.now c.in_ok-names.names c.in_ok-names.ensures.read ∙ sym (append-nil _)

@@ -1,7 +1,0 @@
-use Rattle.std.proofs.Common.{◌≡◌, ◌++◌, map, take}
-use Rattle.held_lines.specs.declared.head_lines.HeadEvent.{HeadEvent}
-use Rattle.held_lines.specs.declared.head_lines.HeadDerived.{HeadDerived}
-use Rattle.held_lines.proofs.heads_held.all_names.Given as goal
-
-abbrev pub invariant-derived : goal.invariant-derived
-invariant-derived l = l.names ≡ map (λ (e : HeadEvent). e.name.items) l.events ++ map (λ (d : HeadDerived). d.name.items) (take l.line-index l.derived)
