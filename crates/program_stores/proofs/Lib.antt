@@ -1,1 +1,4 @@
 mod OverFiles
+pub mod PrintedLemmas
+pub mod SessionLemmas
+pub mod WorkLemmas

@@ -14,8 +14,8 @@ use Rattle.warehouse.proofs.Taken.{taken_clean}
 use Rattle.requests.specs.declared.commands.Command.{Command}
 use Rattle.prof_http.specs.Served.{AreOfRequests}
 use Rattle.prof_http.specs.declared.serving.Service.{Service}
-use Rattle.sessions.specs.Sessions.{Wants}
-use Rattle.sessions.specs.Works.{WerePrinted}
+use Rattle.program_stores.specs.Sessions.{Wants}
+use Rattle.program_stores.specs.Works.{WerePrinted}
 use Rattle.store_paths.specs.Opened.{RepresentsHeld}
 use Rattle.program_stores.specs.Theorem.{Works}
 use Rattle.program_stores.specs.Jobs.{Tells}

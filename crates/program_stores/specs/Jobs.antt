@@ -7,8 +7,8 @@ use Rattle.histories.specs.declared.limits.Limits.{Limits}
 use Rattle.program_stores.specs.declared.jobs.Job.{Job}
 use Rattle.program_stores.specs.declared.jobs.Job.TheVariants as jobs
 use Rattle.requests.specs.Plain.{only_reads}
-use Rattle.sessions.specs.Sessions.{Wants}
-use Rattle.sessions.specs.Works.{WerePrinted}
+use Rattle.program_stores.specs.Sessions.{Wants}
+use Rattle.program_stores.specs.Works.{WerePrinted}
 use Rattle.prof_http.specs.Served.{AreOfRequests}
 
 -- cells of small runs that are kept in memory: a server is asked again and again

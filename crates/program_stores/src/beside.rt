@@ -10,7 +10,7 @@ use command_line::WordsCommand;
 use file_disks::{IfStands, Standing};
 use requests::Command;
 use run_stores::RunStore;
-use sessions::work_over;
+use crate::session::work_over;
 use std::fs;
 use std::fs::File;
 use std::io::Read;

@@ -15,7 +15,7 @@ use file_reading::{
 use prof_http::Service;
 use profile_records::Kind;
 use run_stores::RunStore;
-use sessions::print_total;
+use crate::totals::print_total;
 use std::alloc::{AllocError, Global};
 use std::io::ErrorKind;
 use std::process::ExitCode;

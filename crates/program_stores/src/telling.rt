@@ -2,7 +2,7 @@
 
 use byte_io::push_escaped;
 use file_reading::finding_line;
-use sessions::Remark;
+use crate::remarks::Remark;
 use std::io::IsTerminal;
 use std::rt::HostRuntime;
 

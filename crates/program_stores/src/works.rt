@@ -9,7 +9,7 @@ use crate::telling::{tell_person, tell_remarks};
 use file_disks::IfStands;
 use prof_http::serve_over;
 use run_stores::RunStore;
-use sessions::work_over;
+use crate::session::work_over;
 use std::fs::File;
 use std::io::Read;
 use std::rt::HostRuntime;

@@ -2,11 +2,11 @@
 use Rattle.std.proofs.Common.{◌≡◌, ◌∙◌, ℕ, List, [], Option, Result, Ok, Err, refl, sym, ap, subst, append-nil}
 use Rattle.run_stores.specs.declared.states.StoreState.{Ghosts}
 use Rattle.histories.specs.History.{Command}
-use Rattle.sessions.specs.Sessions.{answers_of, commands_of, status_after}
+use Rattle.program_stores.specs.Sessions.{answers_of, commands_of, status_after}
 use Rattle.histories.specs.Standard.{IsStandard}
-use Rattle.sessions.specs.Works.{WerePrinted}
-use Rattle.sessions.specs.declared.session.Session.{Session}
-use Rattle.sessions.proofs.SessionLemmas.{SoFar, WasCut}
+use Rattle.program_stores.specs.Works.{WerePrinted}
+use Rattle.program_stores.specs.declared.session.Session.{Session}
+use Rattle.program_stores.proofs.SessionLemmas.{SoFar, WasCut}
 use Rattle.warehouse.specs.Taken.{CameTo}
 
 module _ {W S : Type 0} (g : Ghosts S) (contents : W → Option (List ℕ)) (wanted : List Command → Type 0) where

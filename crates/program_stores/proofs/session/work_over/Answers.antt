@@ -5,10 +5,10 @@ use Rattle.run_stores.specs.Calls.{IsFaithful}
 use Rattle.requests.specs.Plain.{plain_request}
 use Rattle.histories.specs.Standard.{IsStandard}
 use Rattle.warehouse.specs.declared.warehouse.Warehouse.{Warehouse}
-use Rattle.sessions.specs.Sessions.{AreReadAs, Wants}
-use Rattle.sessions.proofs.SessionLemmas.{none_read, took_clean, so_far_none, fits_on, fits_cut}
-use Rattle.sessions.proofs.WorkLemmas.{came_from, worked_cut, worked_whole}
-use Rattle.sessions.proofs.session.work_over.Goals as goal
+use Rattle.program_stores.specs.Sessions.{AreReadAs, Wants}
+use Rattle.program_stores.proofs.SessionLemmas.{none_read, took_clean, so_far_none, fits_on, fits_cut}
+use Rattle.program_stores.proofs.WorkLemmas.{came_from, worked_cut, worked_whole}
+use Rattle.program_stores.proofs.session.work_over.Goals as goal
 
 pub loop-command-init : goal.loop-command-init
 loop-command-init g c = record {

@@ -1,8 +1,8 @@
 use Rattle.std.proofs.Common.{◌≡◌, ℕ, take, refl, sym, subst}
 use Rattle.std.specs.Io.KnownBytes.{Appends}
 use Rattle.std.proofs.lemmas.Result.{err_from_is_err_and}
-use Rattle.sessions.specs.Works.{TotalPrinted, total_printed, total_status}
-use Rattle.sessions.proofs.totals.print_total.Goals as goal
+use Rattle.program_stores.specs.Works.{TotalPrinted, total_printed, total_status}
+use Rattle.program_stores.proofs.totals.print_total.Goals as goal
 
 pub returns-in_ok-write_text-in-Err : goal.returns-in_ok-write_text-in-Err
 returns-in_ok-write_text-in-Err g c =

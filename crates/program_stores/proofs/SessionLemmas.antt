@@ -22,8 +22,8 @@ use Rattle.byte_io.specs.Imported.{IsReadOf, WereRead}
 use Rattle.file_reading.specs.Seen.{SeenReads, opened}
 use Rattle.file_reading.specs.declared.seen.SeenFile.{SeenFile}
 use Rattle.warehouse.specs.Answers.{is_refused}
-use Rattle.sessions.specs.Sessions.{AreLinesOf, AreReadAs, ArePrinted, ArePrintedInPart, IsLineOf, Prints, Took, WasPerformed, WasTold, answers_of, commands_of, status_after}
-use Rattle.sessions.specs.declared.session.Session.{Session}
+use Rattle.program_stores.specs.Sessions.{AreLinesOf, AreReadAs, ArePrinted, ArePrintedInPart, IsLineOf, Prints, Took, WasPerformed, WasTold, answers_of, commands_of, status_after}
+use Rattle.program_stores.specs.declared.session.Session.{Session}
 
 -- ---- the status
 

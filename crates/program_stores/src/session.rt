@@ -7,8 +7,8 @@ ghost use Rattle.histories.specs.declared.answers.Answer as given;
 ghost use Rattle.requests.specs.Plain.{plain_request, plain_selection};
 ghost use Rattle.requests.specs.declared.queries.Query.TheVariants.{Csv};
 ghost use Rattle.warehouse.specs.Answered.{IsGivenFor};
-ghost use Rattle.sessions.specs.Sessions.{Prints, Wants, WasPerformed, WasTold, path_in, status_after};
-ghost use Rattle.sessions.specs.Works.{WerePrinted};
+ghost use Rattle.program_stores.specs.Sessions.{Prints, Wants, WasPerformed, WasTold, path_in, status_after};
+ghost use Rattle.program_stores.specs.Works.{WerePrinted};
 ghost use Rattle.std.specs.Result.{result_and};
 ghost use Rattle.warehouse.specs.Taken.{CameTo};
 

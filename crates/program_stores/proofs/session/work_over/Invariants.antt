@@ -3,8 +3,8 @@ use Rattle.run_stores.specs.Calls.{IsFaithful}
 use Rattle.byte_io.specs.Imported.{WereRead}
 use Rattle.histories.specs.History.{Command}
 use Rattle.requests.specs.Plain.{plain_request}
-use Rattle.sessions.proofs.SessionLemmas.{Fits, SoFar}
-use Rattle.sessions.proofs.session.work_over.Given as goal
+use Rattle.program_stores.proofs.SessionLemmas.{Fits, SoFar}
+use Rattle.program_stores.proofs.session.work_over.Given as goal
 
 -- the commands so far were done, and the others are to come
 abbrev pub invariant-loop-command : goal.invariant-loop-command

@@ -4,8 +4,8 @@ use Rattle.histories.specs.History.{Ask}
 use Rattle.requests.specs.Plain.{plain_selection}
 use Rattle.requests.specs.declared.queries.Query.TheVariants.{Csv}
 use Rattle.histories.specs.Answered.{Answers}
-use Rattle.sessions.proofs.SessionLemmas.{told}
-use Rattle.sessions.proofs.session.Session.ask_csv.Goals as goal
+use Rattle.program_stores.proofs.SessionLemmas.{told}
+use Rattle.program_stores.proofs.session.Session.ask_csv.Goals as goal
 
 pub returns-in-Ok-clause-answered : goal.returns-in-Ok-clause-answered
 returns-in-Ok-clause-answered g c clean =

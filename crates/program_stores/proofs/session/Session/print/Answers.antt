@@ -3,10 +3,10 @@ use Rattle.warehouse.specs.Answers.{line_text, takes_memory}
 use Rattle.histories.specs.declared.answers.Answer.{Answer}
 use Rattle.histories.specs.declared.answers.Answer.TheVariants.{Refused}
 use Rattle.histories.specs.declared.answers.Refusal.TheVariants.{Memory}
-use Rattle.sessions.specs.Sessions.{Prints}
-use Rattle.sessions.proofs.PrintedLemmas.{written_as}
-use Rattle.sessions.proofs.SessionLemmas.{wrote}
-use Rattle.sessions.proofs.session.Session.print.Goals as goal
+use Rattle.program_stores.specs.Sessions.{Prints}
+use Rattle.program_stores.proofs.PrintedLemmas.{written_as}
+use Rattle.program_stores.proofs.SessionLemmas.{wrote}
+use Rattle.program_stores.proofs.session.Session.print.Goals as goal
 
 pub returns-in-Text-clause-warehouse : goal.returns-in-Text-clause-warehouse
 returns-in-Text-clause-warehouse g c = (written_as g.W.Write.contents c.write.result c.args.self.now c.in-Text.text c.write.new.out c.write.ensures.whole c.write.ensures.part).0

@@ -1,7 +1,7 @@
 // What a person is told of the files that commands read (specs/Remarks.antt).
 ghost use Rattle.std.specs.Prelude.{◌≡◌};
 ghost use Rattle.requests.specs.Plain.{plain_request};
-ghost use Rattle.sessions.specs.Remarks as spec;
+ghost use Rattle.program_stores.specs.Remarks as spec;
 
 use command_line::WordsCommand;
 use file_reading::{Beginning, Finding, SeenFile, fault_finding, unread_finding};

@@ -6,9 +6,9 @@ use Rattle.std.proofs.Math.Seq.{take-append_seam}
 use Rattle.shared_texts.specs.Sinks.{HasGone, HasGoneInPart, HasStopped}
 use Rattle.shared_texts.proofs.SinkLemmas.{gone_as, stopped_part}
 use Rattle.histories.specs.declared.answers.Answer.TheVariants.{Text}
-use Rattle.sessions.specs.Sessions.{Prints}
-use Rattle.sessions.proofs.SessionLemmas.{part_printed, whole_printed}
-use Rattle.sessions.specs.declared.session.Session.{Session}
+use Rattle.program_stores.specs.Sessions.{Prints}
+use Rattle.program_stores.proofs.SessionLemmas.{part_printed, whole_printed}
+use Rattle.program_stores.specs.declared.session.Session.{Session}
 
 -- the known bytes grew by the first bytes of a text
 abbrev pub AppendsPart : Option (List ℕ) → Option (List ℕ) → List ℕ → Type 0

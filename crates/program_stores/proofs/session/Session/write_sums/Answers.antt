@@ -2,10 +2,10 @@ use Rattle.std.proofs.Common.{[], ◌∷◌, inl, inr, refl, ap, subst, ◌∙�
 use Rattle.report_texts.specs.Csv.{csv_text}
 use Rattle.histories.specs.declared.answers.Answer.TheVariants.{Refused, Text}
 use Rattle.histories.specs.declared.answers.Refusal.TheVariants.{Memory}
-use Rattle.sessions.specs.Sessions.{Prints, status_after}
-use Rattle.sessions.proofs.PrintedLemmas.{all_printed, printed_in_part}
-use Rattle.sessions.proofs.SessionLemmas.{part_printed, whole_printed}
-use Rattle.sessions.proofs.session.Session.write_sums.Goals as goal
+use Rattle.program_stores.specs.Sessions.{Prints, status_after}
+use Rattle.program_stores.proofs.PrintedLemmas.{all_printed, printed_in_part}
+use Rattle.program_stores.proofs.SessionLemmas.{part_printed, whole_printed}
+use Rattle.program_stores.proofs.session.Session.write_sums.Goals as goal
 
 pub returns-in-Ok-clause-warehouse : goal.returns-in-Ok-clause-warehouse
 returns-in-Ok-clause-warehouse g c = (all_printed g.W.Write.contents c.args.self.now (csv_text c.args.sums.now) c.write_csv.new.out c.in-Ok.ensures.whole).1

@@ -16,7 +16,7 @@ use Rattle.requests.specs.declared.commands.Command as requests
 use Rattle.requests.specs.declared.commands.Command.TheVariants as asks
 use Rattle.warehouse.specs.Answers.{is_refused, line_text, takes_memory}
 use Rattle.warehouse.specs.Taken.{WereTaken}
-use Rattle.sessions.specs.declared.session.Session.{Session}
+use Rattle.program_stores.specs.declared.session.Session.{Session}
 
 -- ---- the commands that are asked for
 

@@ -1,5 +1,5 @@
 // The total of a file is printed (specs/Works.antt).
-ghost use Rattle.sessions.specs.Works.{TotalPrinted};
+ghost use Rattle.program_stores.specs.Works.{TotalPrinted};
 
 use byte_io::write_text;
 use file_reading::TotalText;

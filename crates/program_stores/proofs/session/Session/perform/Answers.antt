@@ -6,11 +6,11 @@ use Rattle.histories.specs.History.{Ask, Import}
 use Rattle.requests.specs.Plain.{plain_query, plain_request}
 use Rattle.requests.specs.declared.queries.Query.TheVariants.{Csv}
 use Rattle.histories.proofs.RequestLemmas.{read_alike}
-use Rattle.sessions.specs.Sessions.{WasPerformed, WasTold}
-use Rattle.sessions.proofs.SessionLemmas.{none_read, told, were_read}
+use Rattle.program_stores.specs.Sessions.{WasPerformed, WasTold}
+use Rattle.program_stores.proofs.SessionLemmas.{none_read, told, were_read}
 use Rattle.byte_io.specs.Imported.{WereRead}
 use Rattle.histories.specs.Answered.{Answers}
-use Rattle.sessions.proofs.session.Session.perform.Goals as goal
+use Rattle.program_stores.proofs.session.Session.perform.Goals as goal
 
 pub returns-in-Ask-Csv-clause-answered : goal.returns-in-Ask-Csv-clause-answered
 returns-in-Ask-Csv-clause-answered g c clean =

@@ -1,3 +1,0 @@
-pub mod PrintedLemmas
-pub mod SessionLemmas
-pub mod WorkLemmas

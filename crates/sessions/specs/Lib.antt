@@ -1,3 +1,0 @@
-pub mod Remarks
-pub mod Sessions
-pub mod Works
