@@ -5,14 +5,20 @@
 
 // The changes of a store.
 mod changes;
+// A file of which only so many changes are made.
+mod disk;
 // A file whose reads are given by hand.
 mod given;
 // What has to hold in a test.
 mod holding;
+// The two files of a database, and what a stop leaves of them.
+mod images;
 // Public calls that the program does not make.
 pub mod library;
 // What takes lines may refuse one; then each later piece is refused.
 pub mod lines;
+// How many changes are still made.
+mod meters;
 // A store of which one allocation is refused.
 pub mod page_memory;
 // A list of commands of which one allocation is refused.
@@ -23,3 +29,7 @@ pub mod stops;
 mod stores;
 // What a store tells of all that it holds.
 mod told;
+
+pub use disk::Stopping;
+pub use images::{Image, Left, files_of};
+pub use meters::{Meter, Stops};

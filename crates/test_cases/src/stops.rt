@@ -7,7 +7,8 @@ use run_stores::Kind;
 use sqlite_disk::{Disk, Files};
 use std::alloc::Global;
 use std::test::Fail;
-use stopping_disks::{Image, Left, Meter, Stops, files_of};
+use crate::images::{Image, Left, files_of};
+use crate::meters::{Meter, Stops};
 
 /// How many pages each of `CHANGES` writes at least: of each table with other rows one, and of each of its indexes.
 const PAGES: [u64; 12] = [12, 8, 2, 2, 2, 2, 2, 1, 18, 12, 4, 13];

@@ -8,7 +8,9 @@ use sqlite::{Alter, Connection, FileStore};
 use sqlite_disk::{Disk, Files};
 use sqlite_pager::Options;
 use std::alloc::{AllocError, Global};
-use stopping_disks::{Meter, Stopping, Stops, files_of};
+use crate::disk::Stopping;
+use crate::images::files_of;
+use crate::meters::{Meter, Stops};
 
 /// How many bytes a file has room for, so that it is never the disk that wants memory.
 const ROOM: usize = 0x8_0000;
