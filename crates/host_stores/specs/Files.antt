@@ -2,7 +2,7 @@
 use Rattle.sqlite_disk.specs.declared.Disk.{Ghosts}
 use Rattle.sqlite_disk.specs.declared.Files.{Files}
 use Rattle.sqlite_disk.specs.declared.start.Start as start
-use Rattle.file_disks.specs.Untouched.{IsUntouched}
+use Rattle.store_paths.specs.Untouched.{IsUntouched}
 
 -- both are as they were found
 pub record AreUntouched {D S : Type 0} (g : Ghosts D) (first : start.Ghosts S) (files : Files D) : Type 0 where

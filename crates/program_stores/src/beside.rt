@@ -7,7 +7,7 @@ ghost use Rattle.program_stores.specs.declared.jobs.Job.TheVariants as jobs;
 use crate::jobs::{Done, Job, Outputs};
 use crate::telling::tell_remarks;
 use command_line::WordsCommand;
-use file_disks::{IfStands, Standing};
+use store_paths::{IfStands, Opener, Standing, Unread, is_no_file};
 use requests::Command;
 use run_stores::RunStore;
 use crate::session::work_over;
@@ -15,7 +15,6 @@ use std::fs;
 use std::fs::File;
 use std::io::Read;
 use std::rt::HostRuntime;
-use store_paths::{Opener, Unread, is_no_file};
 
 /// Whether a command changes nothing, and what it reads beside the store can be read once more: a pipe cannot. No
 /// guarantee: of files the checker knows nothing.

@@ -6,14 +6,13 @@ ghost use Rattle.program_stores.specs.Theorem.{WasDone};
 use crate::beside::{commands_beside, done_beside, store_beside_at};
 use crate::jobs::{Done, Job, Outputs};
 use crate::telling::{tell_person, tell_remarks};
-use file_disks::IfStands;
+use store_paths::{IfStands, NotOpened, Opener, Patience, TRIES, Unread};
 use prof_http::serve_over;
 use run_stores::RunStore;
 use crate::session::work_over;
 use std::fs::File;
 use std::io::Read;
 use std::rt::HostRuntime;
-use store_paths::{NotOpened, Opener, Patience, TRIES, Unread};
 use store_schema::OpenError;
 
 /// So often a job is tried beside others, even where that takes longer than patience lasts.

@@ -2,3 +2,9 @@ pub mod Errors
 pub mod Opened
 pub mod Paths
 pub mod Shown
+pub mod Either
+pub mod File
+pub mod Note
+pub mod ReadOnly
+pub mod HeldShown
+pub mod Untouched

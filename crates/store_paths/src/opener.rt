@@ -7,7 +7,7 @@ ghost use Rattle.store_paths.specs.Shown.{ShowImage};
 
 use crate::errors::NotOpened;
 use crate::patience::Patience;
-use file_disks::Standing;
+use crate::opening::Standing;
 use sqlite_disk::{Disk, Files, Memory};
 use sqlite_pager::Options;
 use std::alloc::Global;

@@ -1,6 +1,6 @@
 // Whether what was read beside others is what one commit left.
 
-use file_disks::Standing;
+use crate::opening::Standing;
 use std::rt::HostRuntime;
 
 /// Whether the log is still the one that was read. No guarantee: of files the checker knows nothing, here and below.

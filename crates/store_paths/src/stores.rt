@@ -7,7 +7,7 @@ ghost use Rattle.store_paths.specs.Opened.{RepresentsHeld};
 use crate::errors::NotOpened;
 use crate::opener::Unread;
 use crate::patience::Patience;
-use file_disks::Standing;
+use crate::opening::Standing;
 use plain_tables::StoreError;
 use run_stores::RunStore;
 use std::rt::HostRuntime;
