@@ -4,3 +4,7 @@ pub mod Known
 pub mod Outcomes
 pub mod Reads
 pub mod Takes
+pub mod Gone
+pub mod Parts
+pub mod Sinks
+pub mod Written

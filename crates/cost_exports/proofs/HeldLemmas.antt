@@ -1,10 +1,10 @@
 -- Texts that are held, or counted.
 use Rattle.std.proofs.Common.{◌≡◌, ◌+◌, ℕ, List, ◌++◌, length, refl, sym, ap, ◌∙◌, append_assoc, append-nil, arith}
 use Rattle.std.proofs.lemmas.List.{length-append}
-use Rattle.shared_texts.specs.Sinks.{HasGone}
+use Rattle.byte_io.specs.Sinks.{HasGone}
 use Rattle.cost_exports.specs.declared.held_texts.CountedText.{CountedText}
 use Rattle.cost_exports.specs.declared.held_texts.HeldText.{HeldText}
-use Rattle.shared_texts.proofs.SinkLemmas.{gone_as}
+use Rattle.byte_io.proofs.SinkLemmas.{gone_as}
 
 abbrev Holds : HeldText → List ℕ → HeldText → Type 0
 Holds old piece new = (new.text.items ≡ old.text.items ++ piece) × (new.most ≡ old.most)

@@ -2,9 +2,9 @@
 use Rattle.std.proofs.Common.{◌≡◌, inl, inr, ℕ, true, List, [], ◌++◌, Result, Ok, Err, IsErrAnd, MatchResult, OnErr, refl, sym, ap, subst, ◌∙◌, append_assoc, append-nil}
 use Rattle.cost_exports.specs.Views.{HasWritten}
 use Rattle.cost_exports.specs.Pieces.{IsCut, IsOn, IsOut}
-use Rattle.shared_texts.specs.Sinks.{HasGone}
+use Rattle.byte_io.specs.Sinks.{HasGone}
 use Rattle.cost_exports.specs.declared.csv_pieces.Pieces.{Pieces}
-use Rattle.shared_texts.proofs.SinkLemmas.{gone_none, gone_on}
+use Rattle.byte_io.proofs.SinkLemmas.{gone_none, gone_on}
 
 module _ {S : Type 0} (takes : S → List ℕ → S → Type 0) (from : S) where
   -- nothing was gathered, nor taken

@@ -1,6 +1,6 @@
 -- A text of rows that is written in pieces.
 use Rattle.std.specs.Prelude.{◌≡◌, ℕ, true, false, List, [], ◌++◌, Result, MatchResult}
-use Rattle.shared_texts.specs.Sinks.{HasGone, HasGoneInPart}
+use Rattle.byte_io.specs.Sinks.{HasGone, HasGoneInPart}
 use Rattle.cost_exports.specs.Views.{HasWritten}
 use Rattle.cost_exports.specs.declared.csv_pieces.Pieces.{Pieces}
 

@@ -5,7 +5,7 @@ ghost use Rattle.cost_exports.specs.Views.{HasWritten};
 ghost use Rattle.cost_exports.specs.declared.csv_pieces.Unwritten.TheVariants.{Memory};
 
 use csv::{Writer, WriterBuilder};
-use shared_texts::TextSink;
+use byte_io::TextSink;
 use std::alloc::{AllocError, Global};
 use std::io::ErrorKind;
 use std::{io, mem};

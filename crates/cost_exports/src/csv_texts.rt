@@ -3,7 +3,7 @@ ghost use Rattle.std.specs.Prelude.{◌≡◌, ◌≤◌, ◌++◌, ℕ, List, [
 ghost use Rattle.csv.specs.Writing.{default_writer, row_text};
 ghost use Rattle.report_texts.specs.Csv.{csv_header, csv_row, csv_rows, csv_text};
 ghost use Rattle.cost_exports.specs.Pieces.{GoesOn, IsCut, IsOn, IsOut};
-ghost use Rattle.shared_texts.specs.Sinks.{HasGone, HasGoneInPart};
+ghost use Rattle.byte_io.specs.Sinks.{HasGone, HasGoneInPart};
 ghost use Rattle.cost_exports.specs.declared.csv_pieces.Unwritten.TheVariants.{Memory};
 ghost use Rattle.cost_exports.specs.Views.{HasWritten, held_line, held_names, placed, spot_with, sums_in};
 
@@ -16,7 +16,7 @@ use crate::places::Places;
 use cg_text::ListVec;
 use csv::Writer;
 use itoa::Buffer;
-use shared_texts::TextSink;
+use byte_io::TextSink;
 use std::alloc::{AllocError, Global};
 
 /// Writes a row. Its fields are as many in each row, so memory is the only refusal.

@@ -2,7 +2,7 @@
 ghost use Rattle.std.specs.Prelude.{◌≡◌, ◌+◌, ◌++◌, ◌≤◌, [], length};
 
 use cg_text::ListVec;
-use shared_texts::TextSink;
+use byte_io::TextSink;
 use std::alloc::Global;
 use std::io;
 use std::io::ErrorKind;

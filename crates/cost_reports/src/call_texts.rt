@@ -1,7 +1,7 @@
 // The text of a report of calls.
 ghost use Rattle.std.specs.Prelude.{◌≡◌, ◌≤◌, OnOk, IfOk, codes, length};
 ghost use Rattle.report_texts.specs.Calls.{side_name, pair_text, call_line, call_row_text, call_lines, call_head, call_report_text};
-ghost use Rattle.shared_texts.specs.Written.{GoesOn};
+ghost use Rattle.byte_io.specs.Written.{GoesOn};
 ghost use Rattle.cost_rows.specs.Keys.{lent_place};
 ghost use Rattle.cost_reports.specs.Rows.{plain_call, plain_calls};
 
@@ -11,7 +11,7 @@ use crate::numbers::push_number;
 use crate::rows::CallRow;
 use cost_rows::{Key, LentPlace};
 use report_texts::{CallSide, Pair};
-use shared_texts::{SharedText, TextWriter};
+use byte_io::{SharedText, TextWriter};
 use std::alloc::{AllocError, Global};
 
 fn side_name(side: CallSide) -> &'static [u8]

@@ -1,7 +1,7 @@
 // The text of a difference.
 ghost use Rattle.std.specs.Prelude.{◌≡◌, ◌≤◌, ◌++◌, OnOk, IfOk, codes, length};
 ghost use Rattle.report_texts.specs.Differences.{signed_text, difference_line, difference_lines, difference_head, difference_text};
-ghost use Rattle.shared_texts.specs.Written.{GoesOn};
+ghost use Rattle.byte_io.specs.Written.{GoesOn};
 ghost use Rattle.cost_reports.specs.Rows.{plain_difference, plain_differences};
 
 use crate::differences::Difference;
@@ -10,7 +10,7 @@ use crate::rows::DifferenceRow;
 use crate::signed::push_signed;
 use cost_rows::Key;
 use report_texts::Signed;
-use shared_texts::{SharedText, TextWriter};
+use byte_io::{SharedText, TextWriter};
 use std::alloc::{AllocError, Global};
 
 /// Adds a difference.

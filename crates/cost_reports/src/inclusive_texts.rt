@@ -1,12 +1,12 @@
 // The text of inclusive costs.
 ghost use Rattle.std.specs.Prelude.{◌≡◌, ◌≤◌, OnOk, IfOk, length};
 ghost use Rattle.report_texts.specs.Inclusive.{inclusive_head, inclusive_text};
-ghost use Rattle.shared_texts.specs.Written.{GoesOn};
+ghost use Rattle.byte_io.specs.Written.{GoesOn};
 
 use crate::inclusives::InclusiveReport;
 use crate::key_texts::{push_rows, push_sum};
 use cost_rows::Key;
-use shared_texts::{SharedText, TextWriter};
+use byte_io::{SharedText, TextWriter};
 use std::alloc::{AllocError, Global};
 
 /// Adds of which event the costs are.

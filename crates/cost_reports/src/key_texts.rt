@@ -5,7 +5,7 @@ ghost use Rattle.byte_io.specs.Escapes.{escaped};
 ghost use Rattle.cost_rows.specs.KeySums.{total_of};
 ghost use Rattle.cost_rows.specs.declared.keys.Key.TheVariants.{Function, Line};
 ghost use Rattle.report_texts.specs.KeyTexts.{key_name, part_text, cost_text, cost_line, row_text, rows_text, head_text, key_report_text};
-ghost use Rattle.shared_texts.specs.Written.{GoesOn};
+ghost use Rattle.byte_io.specs.Written.{GoesOn};
 ghost use Rattle.cost_rows.specs.Keys.{lent_place};
 ghost use Rattle.cost_reports.specs.Rows.{plain_row, plain_rows};
 
@@ -14,7 +14,7 @@ use crate::numbers::push_number;
 use crate::percents::push_percent;
 use crate::rows::Row;
 use cost_rows::{Key, LentPlace};
-use shared_texts::{SharedText, TextWriter};
+use byte_io::{SharedText, TextWriter};
 use std::alloc::{AllocError, Global};
 
 fn key_name(key: Key) -> &'static [u8]

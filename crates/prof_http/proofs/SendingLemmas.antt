@@ -1,7 +1,7 @@
 -- A text that is sent as it is made, behind a head.
 use Rattle.std.proofs.Common.{◌≡◌, ◌⊎◌, ◌∙◌, inl, inr, ℕ, true, false, Bool, List, [], ◌++◌, refl, sym, ap, subst, append_assoc, append-nil}
-use Rattle.shared_texts.specs.Sinks.{HasGone, HasGoneInPart, HasStopped}
-use Rattle.shared_texts.proofs.SinkLemmas.{gone_as}
+use Rattle.byte_io.specs.Sinks.{HasGone, HasGoneInPart, HasStopped}
+use Rattle.byte_io.proofs.SinkLemmas.{gone_as}
 use Rattle.http_exchange.specs.Streams.{HaveTaken, IsFront, Written, Writes, WentAs, bytes_written}
 use Rattle.http_exchange.proofs.Steps.{cut_first, went_join, wrote_join}
 use Rattle.prof_http.specs.Replies.{IsSentAs}

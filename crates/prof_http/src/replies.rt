@@ -10,7 +10,7 @@ use crate::sending::{send_pieces, send_sums};
 use cost_exports::CellSums;
 use histories::{Answer, Refusal};
 use http_exchange::{Failing, RESPONSE_ROOM, StatusCode, Stream, put_head, send};
-use shared_texts::SharedText;
+use byte_io::SharedText;
 use std::alloc::{AllocError, Global};
 use warehouse::line_of;
 

@@ -13,7 +13,7 @@ use crate::replies::{Exchange, send_answer};
 use cost_exports::{CellSums, Unwritten, csv_length, write_csv};
 use histories::{Answer, Refusal};
 use http_exchange::{RESPONSE_ROOM, StatusCode, Stream, put_head, write_all};
-use shared_texts::{SharedText, TextSink};
+use byte_io::{SharedText, TextSink};
 use std::alloc::Global;
 use std::io;
 use std::io::ErrorKind;

@@ -3,8 +3,8 @@ use Rattle.std.proofs.Common.{[], ◌∷◌, Result, Ok, Err, OnOk, OnErr, ◌�
 use Rattle.std.specs.Io.KnownBytes.{Appends}
 use Rattle.std.proofs.KnownBytes.{Appends-nil, Appends-trans}
 use Rattle.std.proofs.Math.Seq.{take-append_seam}
-use Rattle.shared_texts.specs.Sinks.{HasGone, HasGoneInPart, HasStopped}
-use Rattle.shared_texts.proofs.SinkLemmas.{gone_as, stopped_part}
+use Rattle.byte_io.specs.Sinks.{HasGone, HasGoneInPart, HasStopped}
+use Rattle.byte_io.proofs.SinkLemmas.{gone_as, stopped_part}
 use Rattle.histories.specs.declared.answers.Answer.TheVariants.{Text}
 use Rattle.program_stores.specs.Sessions.{Prints}
 use Rattle.program_stores.proofs.SessionLemmas.{part_printed, whole_printed}

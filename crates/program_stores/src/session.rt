@@ -13,14 +13,13 @@ ghost use Rattle.std.specs.Result.{result_and};
 ghost use Rattle.warehouse.specs.Taken.{CameTo};
 
 use crate::remarks::{Remark, keep_remark};
-use byte_io::write_text;
+use byte_io::{TextSink, write_text};
 use command_line::WordsCommand;
 use cost_exports::{CellSums, Unwritten, write_csv};
 use file_reading::SeenFile;
 use histories::{Answer, Limits, Refusal};
 use requests::{Command, Query, Selection};
 use run_stores::RunStore;
-use shared_texts::TextSink;
 use std::alloc::AllocError;
 use std::io;
 use std::io::Write;

@@ -20,7 +20,7 @@ use histories::{Answer, Refusal};
 use requests::Selection;
 use run_stores::{RunStore, StoreError};
 use selected_runs::{Counted, RunFold, event_runs, fold_runs};
-use shared_texts::SharedText;
+use byte_io::SharedText;
 use std::alloc::{AllocError, Global};
 
 /// Keeps the calls of runs that are of the function that is asked.

@@ -21,7 +21,7 @@ use profile_records::Kind;
 use requests::Selection;
 use run_stores::{NameTable, RunStore, StoreError};
 use selected_runs::{Counted, RunFold, event_runs, fold_runs};
-use shared_texts::SharedText;
+use byte_io::SharedText;
 use std::alloc::{AllocError, Global};
 
 /// Adds the self costs and the calls of a Callgrind run.

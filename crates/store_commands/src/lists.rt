@@ -13,7 +13,7 @@ use cg_text::ListVec;
 use histories::Answer;
 use profile_records::Kind;
 use run_stores::{GroupEntry, RunEntry, RunStore, StoreError};
-use shared_texts::SharedText;
+use byte_io::SharedText;
 use std::alloc::{AllocError, Global};
 
 fn kind_text(kind: Kind) -> &'static str

@@ -17,7 +17,7 @@ use histories::{Answer, Refusal};
 use requests::Selection;
 use run_stores::{RunStore, StoreError};
 use selected_runs::{Counted, RunFold, event_runs, fold_runs};
-use shared_texts::SharedText;
+use byte_io::SharedText;
 use std::alloc::{AllocError, Global};
 
 /// Adds the cells of a run, by the number of the file's name. Those of a run without the event cost nothing, but

@@ -17,7 +17,7 @@ use histories::Answer;
 use requests::Selection;
 use run_stores::{RunStore, StoreError};
 use selected_runs::{RunFold, fold_runs, select_runs};
-use shared_texts::SharedText;
+use byte_io::SharedText;
 use std::alloc::{AllocError, Global};
 
 /// Adds the lines of a run: the sums of its events beside what its head states.

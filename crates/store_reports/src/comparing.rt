@@ -18,7 +18,7 @@ use histories::{Answer, Refusal};
 use selected_runs::{Counted, NumberSums, Numbers, count_runs, have_event, name_text, one_run, select_runs};
 use requests::Selection;
 use run_stores::{NameTable, RunStore, StoreError};
-use shared_texts::SharedText;
+use byte_io::SharedText;
 use std::alloc::{AllocError, Global};
 
 /// The baseline of a group, as a selection of one run.

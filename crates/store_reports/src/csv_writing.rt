@@ -19,7 +19,7 @@ use histories::{Answer, Refusal};
 use selected_runs::{RunFold, each_named_cell, fold_runs, select_runs};
 use requests::Selection;
 use run_stores::{RunStore, StoreError};
-use shared_texts::SharedText;
+use byte_io::SharedText;
 use std::alloc::{AllocError, Global};
 
 /// Adds the cells of a run, by the names of its events.

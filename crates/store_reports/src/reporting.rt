@@ -26,7 +26,7 @@ use histories::Answer;
 use selected_runs::{NumberSums, RankedSums, event_runs};
 use requests::Selection;
 use run_stores::{NameTable, RunStore, StoreError};
-use shared_texts::SharedText;
+use byte_io::SharedText;
 use std::alloc::Global;
 
 /// Of some sums those that a cut can show. Errors: `Memory`; and `Store` where the name of a sum that is left out is

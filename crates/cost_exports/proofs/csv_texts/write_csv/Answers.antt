@@ -1,6 +1,6 @@
 use Rattle.report_texts.specs.Csv.{csv_text}
 use Rattle.cost_exports.proofs.PieceLemmas.{on_error, on_none}
-use Rattle.shared_texts.proofs.SinkLemmas.{part_none}
+use Rattle.byte_io.proofs.SinkLemmas.{part_none}
 use Rattle.cost_exports.proofs.csv_texts.write_csv.Goals as goal
 
 pub returns-in-Ok-clause-whole : goal.returns-in-Ok-clause-whole

@@ -1,6 +1,6 @@
 use Rattle.std.proofs.Common.{◌≡◌, ◌++◌, drop}
 use Rattle.report_texts.specs.Differences.{difference_lines}
-use Rattle.shared_texts.specs.Written.{written}
+use Rattle.byte_io.specs.Written.{written}
 use Rattle.cost_reports.specs.Rows.{plain_differences}
 use Rattle.cost_reports.proofs.difference_texts.push_rows.Given as goal
 

@@ -1,7 +1,7 @@
 use Rattle.std.proofs.Common.{◌≡◌, ◌<◌, ◌^◌, ◌++◌, drop}
 use Rattle.cost_rows.specs.KeySums.{total_of}
 use Rattle.report_texts.specs.KeyTexts.{rows_text}
-use Rattle.shared_texts.specs.Written.{written}
+use Rattle.byte_io.specs.Written.{written}
 use Rattle.cost_reports.specs.Rows.{plain_rows}
 use Rattle.cost_reports.proofs.key_texts.push_rows.Given as goal
 

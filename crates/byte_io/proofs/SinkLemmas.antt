@@ -1,7 +1,7 @@
 -- Texts that a sink is given in pieces.
 use Rattle.std.proofs.Common.{◌≡◌, inl, inr, ℕ, List, [], ◌∷◌, ◌++◌, refl, sym, ap, subst, ◌∙◌, append_assoc, append-nil}
 use Rattle.std.specs.List.{concat}
-use Rattle.shared_texts.specs.Sinks.{HasGone, HasGoneInPart, HasStopped, TakesEach}
+use Rattle.byte_io.specs.Sinks.{HasGone, HasGoneInPart, HasStopped, TakesEach}
 
 concat_on : (pieces : List (List ℕ)) (piece : List ℕ) → concat (pieces ++ piece ∷ []) ≡ concat pieces ++ piece
 concat_on [] piece = append-nil piece

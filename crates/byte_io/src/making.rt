@@ -1,7 +1,7 @@
 // A text that is made.
 ghost use Rattle.std.specs.Prelude.{◌≡◌, ◌+◌, ◌++◌, ◌≤◌, ◌∷◌, [], length, IfOk, IfSome, OnOk};
 ghost use Rattle.byte_io.specs.Escapes.{escaped};
-ghost use Rattle.shared_texts.specs.Written.{GoesOn, written};
+ghost use Rattle.byte_io.specs.Written.{GoesOn, written};
 
 use crate::parts::{Part, Printed};
 use crate::texts::SharedText;

@@ -1,6 +1,6 @@
 use Rattle.std.proofs.Common.{◌≡◌, ◌++◌, drop, flat_map}
-use Rattle.shared_texts.specs.Parts.{part_text}
-use Rattle.shared_texts.proofs.texts.push_parts.Given as goal
+use Rattle.byte_io.specs.Parts.{part_text}
+use Rattle.byte_io.proofs.texts.push_parts.Given as goal
 
 -- the parts so far, and those to come
 abbrev pub invariant-loop-part : goal.invariant-loop-part

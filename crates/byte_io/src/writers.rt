@@ -1,6 +1,6 @@
 // A text that is made, and what it is made of.
 ghost use Rattle.std.specs.Prelude.{◌≡◌, ◌≤◌, flat_map, length};
-ghost use Rattle.shared_texts.specs.Parts.{part_text};
+ghost use Rattle.byte_io.specs.Parts.{part_text};
 
 use crate::parts::{Part, Printed};
 use std::alloc::Global;

@@ -1,7 +1,7 @@
 // A text that is whole.
 ghost use Rattle.std.specs.Prelude.{◌≡◌, ◌++◌, flat_map, length, IfOk, IfSome, OnOk, OnErr};
-ghost use Rattle.shared_texts.specs.Parts.{part_text, text_of};
-ghost use Rattle.shared_texts.specs.Sinks.{HasGone, HasStopped};
+ghost use Rattle.byte_io.specs.Parts.{part_text, text_of};
+ghost use Rattle.byte_io.specs.Sinks.{HasGone, HasStopped};
 
 use crate::gathering::hand_over;
 use crate::parts::Part;
@@ -21,7 +21,7 @@ pub struct SharedText {
 
 impl Model for SharedText {
     ghost use Rattle.std.specs.Prelude.{◌≡◌, ℕ, List, length};
-    ghost use Rattle.shared_texts.specs.Parts.{text_of};
+    ghost use Rattle.byte_io.specs.Parts.{text_of};
 
     ghost Value = { List ℕ };
 

@@ -1,6 +1,6 @@
 use Rattle.std.proofs.Common.{subst}
-use Rattle.shared_texts.proofs.OnLemmas.{all_gone, passed, stopped_at}
-use Rattle.shared_texts.proofs.gathering.hand_on.Goals as goal
+use Rattle.byte_io.proofs.OnLemmas.{all_gone, passed, stopped_at}
+use Rattle.byte_io.proofs.gathering.hand_on.Goals as goal
 
 pub returns-in_err-take_piece : goal.returns-in_err-take_piece
 returns-in_err-take_piece g c from text on =

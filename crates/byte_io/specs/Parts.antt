@@ -1,6 +1,6 @@
 -- Texts in parts.
 use Rattle.std.specs.Prelude.{ℕ, List, ◌++◌, flat_map}
-use Rattle.shared_texts.specs.declared.parts.Part.{Part}
+use Rattle.byte_io.specs.declared.parts.Part.{Part}
 
 -- bytes, and behind them a name
 abbrev pub part_text : Part → List ℕ

@@ -1,9 +1,9 @@
 -- Texts on their way to a sink.
 use Rattle.std.proofs.Common.{◌≡◌, ℕ, suc, ◌+◌, ◌<◌, List, [], ◌∷◌, ◌++◌, drop, length, get_or, add-one, Result, Ok, Err, IsErrAnd, MatchResult, OnErr, OnOk, refl, sym, ap, subst, ◌∙◌, append_assoc, append-nil}
 use Rattle.std.proofs.Math.Seq.{drop-cons}
-use Rattle.shared_texts.specs.Gone.{IsOn}
-use Rattle.shared_texts.specs.Sinks.{HasGone, HasStopped}
-use Rattle.shared_texts.proofs.SinkLemmas.{gone_none, gone_on}
+use Rattle.byte_io.specs.Gone.{IsOn}
+use Rattle.byte_io.specs.Sinks.{HasGone, HasStopped}
+use Rattle.byte_io.proofs.SinkLemmas.{gone_none, gone_on}
 
 module _ {S : Type 0} (takes : S → List ℕ → S → Type 0) (from : S) where
   pub on_none : IsOn takes from [] from []

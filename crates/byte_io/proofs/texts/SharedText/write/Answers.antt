@@ -1,7 +1,7 @@
 use Rattle.std.proofs.Common.{List, ℕ, OnErr, OnOk, subst}
-use Rattle.shared_texts.specs.Sinks.{HasGone, HasStopped}
-use Rattle.shared_texts.proofs.OnLemmas.{one_gone, one_stopped}
-use Rattle.shared_texts.proofs.texts.SharedText.write.Goals as goal
+use Rattle.byte_io.specs.Sinks.{HasGone, HasStopped}
+use Rattle.byte_io.proofs.OnLemmas.{one_gone, one_stopped}
+use Rattle.byte_io.proofs.texts.SharedText.write.Goals as goal
 
 pub returns-in-Some-clause-whole : goal.returns-in-Some-clause-whole
 returns-in-Some-clause-whole g c =

@@ -1,7 +1,7 @@
 -- A text that is made.
 use Rattle.std.specs.Prelude.{◌≡◌, ◌++◌, ℕ, List}
-use Rattle.shared_texts.specs.Parts.{text_of}
-use Rattle.shared_texts.specs.declared.writers.TextWriter.{TextWriter}
+use Rattle.byte_io.specs.Parts.{text_of}
+use Rattle.byte_io.specs.declared.writers.TextWriter.{TextWriter}
 
 -- what was written so far
 abbrev pub written : TextWriter → List ℕ

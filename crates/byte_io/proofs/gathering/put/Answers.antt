@@ -1,7 +1,7 @@
 use Rattle.std.proofs.Common.{◌++◌, sym, subst, refl}
-use Rattle.shared_texts.specs.Gone.{IsOn}
-use Rattle.shared_texts.proofs.OnLemmas.{followed, gone_with, part_of, passed, stopped_behind}
-use Rattle.shared_texts.proofs.gathering.put.Goals as goal
+use Rattle.byte_io.specs.Gone.{IsOn}
+use Rattle.byte_io.proofs.OnLemmas.{followed, gone_with, part_of, passed, stopped_behind}
+use Rattle.byte_io.proofs.gathering.put.Goals as goal
 
 pub returns-in_err-hand_on : goal.returns-in_err-hand_on
 returns-in_err-hand_on g c from text on =

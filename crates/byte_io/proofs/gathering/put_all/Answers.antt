@@ -1,8 +1,8 @@
 use Rattle.std.proofs.Common.{ℕ, List, [], flat_map, refl, sym, subst}
-use Rattle.shared_texts.specs.Gone.{IsOn}
-use Rattle.shared_texts.specs.Parts.{part_text, text_of}
-use Rattle.shared_texts.proofs.OnLemmas.{if_ok, if_err, on_error, on_none, part_of}
-use Rattle.shared_texts.proofs.gathering.put_all.Goals as goal
+use Rattle.byte_io.specs.Gone.{IsOn}
+use Rattle.byte_io.specs.Parts.{part_text, text_of}
+use Rattle.byte_io.proofs.OnLemmas.{if_ok, if_err, on_error, on_none, part_of}
+use Rattle.byte_io.proofs.gathering.put_all.Goals as goal
 
 pub returns-in_err-put_parts-clause-part : goal.returns-in_err-put_parts-clause-part
 returns-in_err-put_parts-clause-part g c =

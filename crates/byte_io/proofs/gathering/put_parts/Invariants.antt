@@ -1,7 +1,7 @@
 use Rattle.std.proofs.Common.{◌≡◌, ◌++◌, ℕ, List, drop, flat_map}
-use Rattle.shared_texts.specs.Gone.{IsOn}
-use Rattle.shared_texts.specs.Parts.{part_text}
-use Rattle.shared_texts.proofs.gathering.put_parts.Given as goal
+use Rattle.byte_io.specs.Gone.{IsOn}
+use Rattle.byte_io.specs.Parts.{part_text}
+use Rattle.byte_io.proofs.gathering.put_parts.Given as goal
 
 -- the parts so far, and those to come
 abbrev pub invariant-loop-part : goal.invariant-loop-part

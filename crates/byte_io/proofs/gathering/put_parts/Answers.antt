@@ -1,9 +1,9 @@
 use Rattle.std.proofs.Common.{◌<◌, ◌+◌, ◌++◌, ℕ, List, drop, flat_map, length, sym, ap, subst, ◌∙◌, append_assoc, append-nil, arith}
 use Rattle.std.proofs.lemmas.List.{drop_all}
-use Rattle.shared_texts.specs.Gone.{IsOn}
-use Rattle.shared_texts.specs.Parts.{part_text}
-use Rattle.shared_texts.proofs.OnLemmas.{drop_at, part_of, passed}
-use Rattle.shared_texts.proofs.gathering.put_parts.Goals as goal
+use Rattle.byte_io.specs.Gone.{IsOn}
+use Rattle.byte_io.specs.Parts.{part_text}
+use Rattle.byte_io.proofs.OnLemmas.{drop_at, part_of, passed}
+use Rattle.byte_io.proofs.gathering.put_parts.Goals as goal
 
 pub loop-part-preserved : goal.loop-part-preserved
 loop-part-preserved g c from text on =

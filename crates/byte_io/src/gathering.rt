@@ -1,8 +1,8 @@
 // A text that goes out in pieces, the short ones gathered.
 ghost use Rattle.std.specs.Prelude.{◌≡◌, ◌++◌, if◌then◌else◌, ℕ, List, [], flat_map, OnOk, OnErr, MatchResult};
-ghost use Rattle.shared_texts.specs.Gone.{IsOn};
-ghost use Rattle.shared_texts.specs.Parts.{part_text, text_of};
-ghost use Rattle.shared_texts.specs.Sinks.{HasGone, HasStopped};
+ghost use Rattle.byte_io.specs.Gone.{IsOn};
+ghost use Rattle.byte_io.specs.Parts.{part_text, text_of};
+ghost use Rattle.byte_io.specs.Sinks.{HasGone, HasStopped};
 
 use crate::parts::Part;
 use crate::text_sinks::TextSink;

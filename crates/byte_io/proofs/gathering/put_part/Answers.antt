@@ -1,8 +1,8 @@
 use Rattle.std.proofs.Common.{◌++◌, ℕ, List, MatchResult, ap, subst, ◌∙◌, append_assoc}
-use Rattle.shared_texts.specs.Gone.{IsOn}
-use Rattle.shared_texts.specs.Sinks.{HasStopped}
-use Rattle.shared_texts.proofs.OnLemmas.{part_of, passed}
-use Rattle.shared_texts.proofs.gathering.put_part.Goals as goal
+use Rattle.byte_io.specs.Gone.{IsOn}
+use Rattle.byte_io.specs.Sinks.{HasStopped}
+use Rattle.byte_io.proofs.OnLemmas.{part_of, passed}
+use Rattle.byte_io.proofs.gathering.put_part.Goals as goal
 
 pub returns-in_err-put : goal.returns-in_err-put
 returns-in_err-put g c from text on =

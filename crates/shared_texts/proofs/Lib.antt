@@ -1,2 +1,0 @@
-pub mod SinkLemmas
-mod OnLemmas

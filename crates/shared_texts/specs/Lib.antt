@@ -1,4 +1,0 @@
-pub mod Gone
-pub mod Parts
-pub mod Sinks
-pub mod Written
