@@ -8,8 +8,8 @@ use Rattle.sqlite.specs.declared.error.Error.TheVariants as sqls
 use Rattle.sqlite.specs.declared.error.ErrorCode.TheVariants as failures
 use Rattle.sqlite_std_file.specs.declared.pair.OpenError as path
 use Rattle.sqlite_std_file.specs.declared.pair.OpenError.TheVariants as paths
-use Rattle.store_schema.specs.declared.errors.OpenError.{OpenError}
-use Rattle.store_schema.specs.declared.errors.OpenError.TheVariants as ends
+use Rattle.prof_store.specs.declared.errors.OpenError.{OpenError}
+use Rattle.prof_store.specs.declared.errors.OpenError.TheVariants as ends
 use Rattle.store_paths.specs.declared.errors.Cause.{Cause}
 use Rattle.store_paths.specs.declared.errors.Cause.TheVariants as causes
 use Rattle.store_paths.specs.declared.errors.NotOpened.{NotOpened}

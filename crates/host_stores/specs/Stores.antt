@@ -10,12 +10,12 @@ use Rattle.sqlite.specs.declared.error.Error.{Error}
 use Rattle.sqlite.specs.Files.{Finds, file_state, over_files}
 use Rattle.sqlite.specs.Held.{Held, state}
 use Rattle.sqlite.specs.State.{State, HasCleanDisk, QueriesRow}
-use Rattle.store_schema.specs.Schema.{empty_schema}
-use Rattle.store_schema.specs.Created.{Creates}
-use Rattle.store_schema.specs.Texts.{schema_sql}
+use Rattle.prof_store.specs.Schema.{empty_schema}
+use Rattle.prof_store.specs.Created.{Creates}
+use Rattle.prof_store.specs.Texts.{schema_sql}
 use Rattle.prof_store.specs.Schemas.{IsOpenedBy, Opened, failed_opening}
-use Rattle.store_schema.specs.declared.errors.OpenError.{OpenError}
-use Rattle.store_schema.specs.declared.errors.OpenError.TheVariants as ends
+use Rattle.prof_store.specs.declared.errors.OpenError.{OpenError}
+use Rattle.prof_store.specs.declared.errors.OpenError.TheVariants as ends
 
 -- a new store is made, or the one of the database is found, and left as it was or brought up to version 2
 abbrev pub TakesUp : {S : Type 0} → Ghosts S → Bool → Held S → Held S → Type 0

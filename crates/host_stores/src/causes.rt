@@ -1,7 +1,7 @@
 // Why the host, or SQL, does not open a store.
 ghost use Rattle.std.specs.Prelude.{◌≡◌};
 ghost use Rattle.std_io.specs.IoError.{error_kind};
-ghost use Rattle.store_schema.specs.Errors.{error_for, opening};
+ghost use Rattle.prof_store.specs.Errors.{error_for, opening};
 ghost use Rattle.host_stores.specs.Causes.{host_cause, host_refusal, path_cause, path_refusal, sql_cause};
 
 use prof_store::OpenError;

@@ -3,8 +3,8 @@ use Rattle.std.proofs.Common.{◌≡◌, ℕ, List, map, true}
 use Rattle.sqlite_trees.specs.Tree.{Trees}
 use Rattle.plain_tables.specs.Changes.{has_run, with_calls, with_cells, with_coefs, with_derived, with_events, with_stacks}
 use Rattle.plain_tables.specs.Tables.{Tables, EventRow, DerivedRow, CoefRow, StoredCell, StoredCall, StoredStack}
-use Rattle.store_schema.specs.Schema.{schema_two, run_event_at, derived_at, coef_at, thread_cell_at, arc_at, stack_at}
-use Rattle.store_schema.specs.Tables.{Holds, event_columns, derived_columns, coef_columns, cell_columns, arc_columns, stack_columns}
+use Rattle.prof_store.specs.Schema.{schema_two, run_event_at, derived_at, coef_at, thread_cell_at, arc_at, stack_at}
+use Rattle.prof_store.specs.Tables.{Holds, event_columns, derived_columns, coef_columns, cell_columns, arc_columns, stack_columns}
 use Rattle.page_places.specs.Keys.{AreOfNewRun}
 use Rattle.page_places.proofs.Fills as fills
 use Rattle.line_fills.specs.Filled.{IsTableFilled}

@@ -6,7 +6,7 @@ ghost use Rattle.sqlite_value.specs.Value.{owned};
 use crate::lines::PageLine;
 use sqlite_value::value::ValueRef;
 use std::cmp::Ordering;
-use store_schema::{CoefRow, ColumnInt, DerivedRow, EventRow, StoredStack};
+use prof_store::{CoefRow, ColumnInt, DerivedRow, EventRow, StoredStack};
 
 /// A number of 32 bits as a value.
 #[inline(always)]
@@ -25,8 +25,8 @@ fn whole(number: &ColumnInt) -> ValueRef<'static>
 }
 
 impl PageLine for StoredStack<'_> {
-    ghost use Rattle.store_schema.specs.Lines.{stack_row};
-    ghost use Rattle.store_schema.specs.Tables.{stack_columns};
+    ghost use Rattle.prof_store.specs.Lines.{stack_row};
+    ghost use Rattle.prof_store.specs.Tables.{stack_columns};
 
     ghost columns = { λ line. stack_columns (stack_row line) };
 
@@ -54,8 +54,8 @@ impl PageLine for StoredStack<'_> {
 }
 
 impl PageLine for EventRow<'_> {
-    ghost use Rattle.store_schema.specs.Lines.{event_row};
-    ghost use Rattle.store_schema.specs.Tables.{event_columns};
+    ghost use Rattle.prof_store.specs.Lines.{event_row};
+    ghost use Rattle.prof_store.specs.Tables.{event_columns};
 
     ghost columns = { λ line. event_columns (event_row line) };
 
@@ -91,8 +91,8 @@ impl PageLine for EventRow<'_> {
 }
 
 impl PageLine for DerivedRow<'_> {
-    ghost use Rattle.store_schema.specs.Lines.{derived_row};
-    ghost use Rattle.store_schema.specs.Tables.{derived_columns};
+    ghost use Rattle.prof_store.specs.Lines.{derived_row};
+    ghost use Rattle.prof_store.specs.Tables.{derived_columns};
 
     ghost columns = { λ line. derived_columns (derived_row line) };
 
@@ -122,8 +122,8 @@ impl PageLine for DerivedRow<'_> {
 }
 
 impl PageLine for CoefRow {
-    ghost use Rattle.store_schema.specs.Lines.{coef_row};
-    ghost use Rattle.store_schema.specs.Tables.{coef_columns};
+    ghost use Rattle.prof_store.specs.Lines.{coef_row};
+    ghost use Rattle.prof_store.specs.Tables.{coef_columns};
 
     ghost columns = { λ line. coef_columns (coef_row line) };
 

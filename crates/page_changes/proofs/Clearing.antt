@@ -24,8 +24,8 @@ use Rattle.plain_tables.specs.Tables.{Tables, GroupRow}
 use Rattle.page_places.specs.declared.places.Place.{Place}
 use Rattle.page_places.specs.Changes.{Shows}
 use Rattle.row_writes.specs.Tests.{rowids_of}
-use Rattle.store_schema.specs.Schema.{schema_two, grp_at}
-use Rattle.store_schema.specs.Tables.{Holds, group_columns}
+use Rattle.prof_store.specs.Schema.{schema_two, grp_at}
+use Rattle.prof_store.specs.Tables.{Holds, group_columns}
 use Rattle.page_places.specs.Unused.{cleared}
 use Rattle.page_places.proofs.Cleared.{cleared_all, still_to_clear}
 use Rattle.page_places.proofs.Contents.{line_of, row_of_line}

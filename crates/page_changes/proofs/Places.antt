@@ -20,8 +20,8 @@ use Rattle.page_places.specs.declared.places.IndexPlace.{IndexPlace}
 use Rattle.page_places.specs.declared.places.Place.{Place}
 use Rattle.page_places.specs.Changes.{Shows}
 use Rattle.page_places.specs.Places.{AreIndexPlaces, IsIndexPlace, indexes_of}
-use Rattle.store_schema.specs.Schema.{schema_two, grp_at, member_at}
-use Rattle.store_schema.specs.Tables.{Holds}
+use Rattle.prof_store.specs.Schema.{schema_two, grp_at, member_at}
+use Rattle.prof_store.specs.Tables.{Holds}
 
 module _ {D : Type 0} {g : Ghosts D} (file : PageFile D g) {wanted : List Wanted} {known : List ℕ} {was now : Trees} {t : Tables} (writes : Writes wanted known was now file) (holds : Holds t now) where
   key_at : (under : ℕ) (index : Index) → slice_get schema_two.indexes under ≡ Some index → index.order ≡ plain → (place : IndexPlace) → place.root ≡ slice_index known index.tree → place.columns.now ≡ index.columns

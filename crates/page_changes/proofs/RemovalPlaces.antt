@@ -24,8 +24,8 @@ use Rattle.page_places.specs.Changes.{HasRows, Shows}
 use Rattle.row_writes.specs.Tests.{rows_left}
 use Rattle.row_writes.specs.Under.{is_under}
 use Rattle.page_places.specs.Places.{AreIndexPlaces, IsIndexPlace, indexes_of, IsSpaced}
-use Rattle.store_schema.specs.Schema.{schema_two, run_event_at, derived_at, coef_at, thread_cell_at, arc_at, stack_at}
-use Rattle.store_schema.specs.Tables.{Holds}
+use Rattle.prof_store.specs.Schema.{schema_two, run_event_at, derived_at, coef_at, thread_cell_at, arc_at, stack_at}
+use Rattle.prof_store.specs.Tables.{Holds}
 use Rattle.sqlite_trees.specs.View.{IsShaped}
 use Rattle.page_places.proofs.Runs.{calls_taken_out, cells_taken_out, coefs_taken_out, derived_taken_out, events_taken_out, stacks_taken_out}
 

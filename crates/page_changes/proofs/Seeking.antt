@@ -8,8 +8,8 @@ use Rattle.sqlite_value.specs.declared.value.Value.TheVariants.{Int}
 use Rattle.sqlite_value.specs.Order.{Row}
 use Rattle.plain_tables.specs.Changes.{has_group, has_member, is_member, is_named}
 use Rattle.plain_tables.specs.Tables.{Tables, GroupRow, MemberRow}
-use Rattle.store_schema.specs.Schema.{grp_at, member_at}
-use Rattle.store_schema.specs.Tables.{Holds, group_columns, member_columns}
+use Rattle.prof_store.specs.Schema.{grp_at, member_at}
+use Rattle.prof_store.specs.Tables.{Holds, group_columns, member_columns}
 use Rattle.page_places.proofs.Contents.{line_of, row_of_line}
 use Rattle.page_places.proofs.Store.{groups_lined, members_lined}
 use Rattle.page_changes.specs.Causes.{HasNarrowBaselines, HasNarrowMembers}

@@ -26,8 +26,8 @@ use Rattle.page_places.specs.Changes.{AreStorable}
 use Rattle.page_places.specs.Places.{indexes_of}
 use Rattle.run_lists.specs.Listed.{AreListed}
 use Rattle.run_lists.specs.declared.listed.RunLists.{RunLists}
-use Rattle.store_schema.specs.Schema.{schema_two, grp_at, member_at}
-use Rattle.store_schema.specs.Tables.{Holds, number_or_null}
+use Rattle.prof_store.specs.Schema.{schema_two, grp_at, member_at}
+use Rattle.prof_store.specs.Tables.{Holds, number_or_null}
 
 -- there is a rowid above those of the rows, and the row with these columns and its entries can be written as records
 pub record CanFollow (columns : Row) (rows : List Row) (indexes : List Index) : Type 0 where

@@ -24,7 +24,7 @@ use Rattle.plain_tables.specs.Changes.{has_group, has_member, has_run, is_named}
 use Rattle.plain_tables.specs.Tables.{Tables, MemberRow}
 use Rattle.run_lists.specs.Listed.{AreListed}
 use Rattle.run_lists.specs.declared.listed.RunLists.{RunLists}
-use Rattle.store_schema.specs.Tables.{Holds}
+use Rattle.prof_store.specs.Tables.{Holds}
 use Rattle.page_places.specs.declared.roots.StoreRoots.{StoreRoots}
 use Rattle.page_places.specs.Roots.{AreRoots}
 

@@ -8,7 +8,7 @@ use Rattle.sqlite_value.specs.Order.{Row, column, value_cmp}
 use Rattle.sqlite_rules.specs.Lists.{Has}
 use Rattle.plain_tables.specs.declared.errors.StoreError.{StoreError}
 use Rattle.plain_tables.specs.declared.errors.StoreError.TheVariants.{Store}
-use Rattle.store_schema.specs.Tables.{number_or_null}
+use Rattle.prof_store.specs.Tables.{number_or_null}
 use Rattle.page_changes.specs.declared.finding.NamedRow.{NamedRow}
 
 abbrev pub named : ℤ → List ℕ → Option ℕ → Row

@@ -23,8 +23,8 @@ use Rattle.row_writes.specs.Tests.{rows_left}
 use Rattle.row_writes.specs.Under.{AreLed, is_under}
 use Rattle.run_lists.specs.Listed.{AreListed}
 use Rattle.run_lists.specs.declared.listed.RunLists.{RunLists}
-use Rattle.store_schema.specs.Schema.{schema_two, grp_at}
-use Rattle.store_schema.specs.Tables.{Holds, group_columns}
+use Rattle.prof_store.specs.Schema.{schema_two, grp_at}
+use Rattle.prof_store.specs.Tables.{Holds, group_columns}
 use Rattle.page_places.specs.Unused.{but_its_row, cleared}
 use Rattle.page_places.specs.declared.roots.StoreRoots.{StoreRoots}
 use Rattle.page_places.specs.Roots.{AreRoots}

@@ -4,7 +4,7 @@ ghost use Rattle.sqlite_pool.specs.Pool as pools;
 ghost use Rattle.sqlite_pool.specs.Stored.{Keeps};
 ghost use Rattle.sqlite_record.specs.Record.{decode};
 ghost use Rattle.sqlite_value.specs.declared.value.Value.TheVariants.{Text, Null};
-ghost use Rattle.store_schema.specs.Tables.{number};
+ghost use Rattle.prof_store.specs.Tables.{number};
 ghost use Rattle.page_files.specs.Files.{IsUsable};
 ghost use Rattle.page_changes.specs.Removed.{ClearsAll, ClearsOne, DropsWithin, IsNoBaseline, without_baselines};
 

@@ -4,7 +4,7 @@ ghost use Rattle.sqlite_value.specs.Order.{Row};
 ghost use Rattle.sqlite_record.specs.Fields.{fields_left};
 ghost use Rattle.sqlite_store.specs.Db.{table_row};
 ghost use Rattle.sqlite_value.specs.declared.value.Value.TheVariants.{Text};
-ghost use Rattle.store_schema.specs.Tables.{number_or_null};
+ghost use Rattle.prof_store.specs.Tables.{number_or_null};
 ghost use Rattle.page_files.specs.Files.{IsFaithful, IsUsable, OnlyReads};
 ghost use Rattle.page_changes.specs.Causes.{FailsToSeek};
 ghost use Rattle.page_changes.specs.Named.{IsFound, IsNarrow, IsRefused, IsSought, named};

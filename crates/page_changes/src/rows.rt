@@ -3,10 +3,10 @@ ghost use Rattle.std.specs.Prelude.{◌≡◌, ◌∷◌, [], ⊤, true, false, 
 ghost use Rattle.sqlite_pool.specs.Pool as pools;
 ghost use Rattle.sqlite_pool.specs.Stored.{Keeps};
 ghost use Rattle.sqlite_value.specs.declared.value.Value.TheVariants.{Text};
-ghost use Rattle.store_schema.specs.Tables.{number_or_null};
+ghost use Rattle.prof_store.specs.Tables.{number_or_null};
 ghost use Rattle.page_files.specs.Files.{IsUsable};
 ghost use Rattle.plain_tables.specs.Changes.{has_group, has_run, with_baseline, with_group, with_member, without_member};
-ghost use Rattle.store_schema.specs.Schema.{grp_at, member_at};
+ghost use Rattle.prof_store.specs.Schema.{grp_at, member_at};
 ghost use Rattle.page_changes.specs.Causes.{CanPutBaseline, HasRoomForGroup, HasRoomForMember};
 ghost use Rattle.page_changes.specs.Changes.{CanJoin, ErasesNamed, HasNoMember, MakesWithin, PutsBehind, without_members, without_named};
 ghost use Rattle.page_changes.specs.Named.{CanBeFound};

@@ -10,8 +10,8 @@ use Rattle.plain_tables.specs.Files.{all_named, numbers_in}
 use Rattle.plain_tables.specs.Tables.{Tables}
 use Rattle.run_stores.specs.Files.{call_rows, cell_rows, stack_rows}
 use Rattle.page_places.specs.Places.{indexes_of}
-use Rattle.store_schema.specs.Schema.{schema_two, name_at, arc_at, stack_at, thread_cell_at}
-use Rattle.store_schema.specs.Tables.{cell_columns, arc_columns, stack_columns}
+use Rattle.prof_store.specs.Schema.{schema_two, name_at, arc_at, stack_at, thread_cell_at}
+use Rattle.prof_store.specs.Tables.{cell_columns, arc_columns, stack_columns}
 use Rattle.page_imports.specs.Causes.{CanBePut, CanPutCalls, CanPutCells, CanPutRows, CanPutStacks}
 use Rattle.page_imports.specs.Steps.{KeepsOthers, head_tables}
 

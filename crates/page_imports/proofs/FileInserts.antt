@@ -8,10 +8,10 @@ use Rattle.plain_tables.specs.Tables.{Tables, EventRow, DerivedRow, CoefRow}
 use Rattle.run_stores.specs.Files.{with_rows, with_head}
 use Rattle.run_stores.specs.Heads.{event_rows, derived_rows, coef_rows}
 use Rattle.profile_records.specs.Kinds.{kind_number}
-use Rattle.store_schema.specs.Lines.{event_row, derived_row, coef_row}
+use Rattle.prof_store.specs.Lines.{event_row, derived_row, coef_row}
 use Rattle.run_stores.specs.BookRuns.{with_file, run_row_of}
 use Rattle.profile_records.specs.declared.kinds.Kind.{Kind}
-use Rattle.store_schema.specs.declared.table_rows.HeadRows.{HeadRows}
+use Rattle.prof_store.specs.declared.table_rows.HeadRows.{HeadRows}
 
 -- its run and its lines are those of the head and the rows
 pub file_is : (n k calls : ℕ) (digest label : List ℕ) (head : HeadRows) (rows : FileRows) (t : Tables) (kind : Kind) (h : FileHead) → k ≡ kind_number kind → calls ≡ count_total (content_of rows).calls

@@ -19,10 +19,10 @@ use Rattle.sqlite_pool.specs.Pool.{state}
 use Rattle.sqlite_pool.specs.Stored.{Keeps}
 use Rattle.sqlite_store.specs.declared.catalog.Wanted.{Wanted}
 use Rattle.sqlite_trees.specs.Tree.{Trees}
-use Rattle.store_schema.specs.Lines.{run_row, event_row, derived_row, coef_row}
-use Rattle.store_schema.specs.Tables.{Holds}
-use Rattle.store_schema.specs.declared.table_rows.HeadRows.{HeadRows}
-use Rattle.store_schema.specs.declared.table_rows.RunRow.{RunRow}
+use Rattle.prof_store.specs.Lines.{run_row, event_row, derived_row, coef_row}
+use Rattle.prof_store.specs.Tables.{Holds}
+use Rattle.prof_store.specs.declared.table_rows.HeadRows.{HeadRows}
+use Rattle.prof_store.specs.declared.table_rows.RunRow.{RunRow}
 use Rattle.page_imports.specs.Causes.{CanBeFiled, CanPutHead, CanPutHeadOf, CanPutRows}
 use Rattle.page_imports.specs.Imports.{IsNew}
 use Rattle.page_imports.specs.Needs.{CanBegin, HasNoRow}

@@ -6,7 +6,7 @@ use Rattle.sqlite_rules.specs.Lists.{Has}
 use Rattle.sqlite_schema.specs.declared.schema.Table.{Table}
 use Rattle.sqlite_trees.specs.Tree.{Trees}
 use Rattle.line_fills.specs.Filled.{trees_over}
-use Rattle.store_schema.specs.Schema.{schema_two}
+use Rattle.prof_store.specs.Schema.{schema_two}
 use Rattle.page_places.specs.TableChanges.{OnlyChanges, SparesBut}
 use Rattle.page_imports.specs.Steps.{KeepsOthers}
 

@@ -15,7 +15,7 @@ use Rattle.page_places.proofs.Failing.{store_fails_later}
 use Rattle.plain_tables.specs.Tables.{Tables}
 use Rattle.plain_tables.specs.declared.errors.StoreError.{StoreError}
 use Rattle.page_places.proofs.Outcomes.{match_result}
-use Rattle.store_schema.specs.Tables.{Holds}
+use Rattle.prof_store.specs.Tables.{Holds}
 use Rattle.page_imports.specs.Steps.{HasMade, KeepsOthers, Makes, ShowsTables}
 use Rattle.page_imports.proofs.Kept.{kept_then}
 

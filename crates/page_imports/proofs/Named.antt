@@ -11,8 +11,8 @@ use Rattle.plain_tables.specs.Files.{all_named, number_in}
 use Rattle.plain_tables.specs.Tables.{Tables, NameRow}
 use Rattle.plain_tables.proofs.Lists.{all-append}
 use Rattle.plain_tables.proofs.Numbering.{named_held, named_new, numbers_more, one_named}
-use Rattle.store_schema.specs.Schema.{schema_two, name_at}
-use Rattle.store_schema.specs.Tables.{Holds, name_columns}
+use Rattle.prof_store.specs.Schema.{schema_two, name_at}
+use Rattle.prof_store.specs.Tables.{Holds, name_columns}
 use Rattle.page_places.specs.Fills.{Fills}
 use Rattle.page_places.proofs.Fills as fills
 use Rattle.line_fills.specs.Filled.{IsTableFilled}

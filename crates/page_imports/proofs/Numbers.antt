@@ -9,9 +9,9 @@ use Rattle.plain_tables.specs.Changes.{has_name, next_name, with_new_name}
 use Rattle.plain_tables.specs.Files.{number_in}
 use Rattle.plain_tables.specs.Tables.{Tables, NameRow}
 use Rattle.sql_tables.proofs.Contents.{content_there}
-use Rattle.store_schema.specs.Schema.{schema_two, name_at}
-use Rattle.store_schema.specs.Tables.{Holds, contents_of}
-use Rattle.store_schema.proofs.Rows.{next_is}
+use Rattle.prof_store.specs.Schema.{schema_two, name_at}
+use Rattle.prof_store.specs.Tables.{Holds, contents_of}
+use Rattle.prof_store.proofs.Rows.{next_is}
 
 module _ (t : Tables) (now : Trees) (holds : Holds t now) where
   -- the next rowid is the number of the next name

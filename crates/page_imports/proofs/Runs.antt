@@ -14,8 +14,8 @@ use Rattle.run_lists.specs.declared.listed.ListedRun.{ListedRun}
 use Rattle.run_lists.specs.declared.listed.RunLists.{RunLists}
 use Rattle.run_stores.specs.Files.{with_head}
 use Rattle.sqlite_trees.specs.Tree.{Trees}
-use Rattle.store_schema.specs.Tables.{Holds}
-use Rattle.store_schema.proofs.Sound.{sound_of}
+use Rattle.prof_store.specs.Tables.{Holds}
+use Rattle.prof_store.proofs.Sound.{sound_of}
 use Rattle.page_imports.specs.Imports.{reaches}
 use Rattle.page_imports.specs.Needs.{HasNoRow}
 

@@ -20,8 +20,8 @@ use Rattle.page_places.specs.declared.places.IndexPlace.{IndexPlace}
 use Rattle.page_places.specs.declared.places.Place.{Place}
 use Rattle.page_places.specs.Changes.{Shows}
 use Rattle.page_places.specs.Places.{AreIndexPlaces, IsIndexPlace, indexes_of}
-use Rattle.store_schema.specs.Schema.{schema_two}
-use Rattle.store_schema.specs.Tables.{Holds, meta_columns, number}
+use Rattle.prof_store.specs.Schema.{schema_two}
+use Rattle.prof_store.specs.Tables.{Holds, meta_columns, number}
 
 -- the columns of lines, as plain data or as they are
 pub mapped_twice : {X Y Z : Type 0} (f : Y → Z) (g : X → Y) (xs : List X) → map (λ x. f (g x)) xs ≡ map f (map g xs)

@@ -30,11 +30,11 @@ use Rattle.page_imports.specs.RowFits.{HeadFits, StacksFit}
 use Rattle.run_lists.specs.Listed.{AreListed}
 use Rattle.run_lists.specs.declared.listed.RunLists.{RunLists}
 use Rattle.run_stores.specs.declared.summed.SummedFile.{SummedFile}
-use Rattle.store_schema.specs.Lines.{run_row, event_row, derived_row, coef_row}
-use Rattle.store_schema.specs.Schema.{schema_two, meta_at, run_at, run_event_at, derived_at, coef_at, name_at, arc_at, stack_at, thread_cell_at}
-use Rattle.store_schema.specs.Tables.{Holds, meta_columns, run_columns, event_columns, derived_columns, coef_columns, cell_columns, arc_columns, stack_columns}
-use Rattle.store_schema.specs.declared.table_rows.HeadRows.{HeadRows}
-use Rattle.store_schema.specs.declared.table_rows.RunRow.{RunRow as RunLine}
+use Rattle.prof_store.specs.Lines.{run_row, event_row, derived_row, coef_row}
+use Rattle.prof_store.specs.Schema.{schema_two, meta_at, run_at, run_event_at, derived_at, coef_at, name_at, arc_at, stack_at, thread_cell_at}
+use Rattle.prof_store.specs.Tables.{Holds, meta_columns, run_columns, event_columns, derived_columns, coef_columns, cell_columns, arc_columns, stack_columns}
+use Rattle.prof_store.specs.declared.table_rows.HeadRows.{HeadRows}
+use Rattle.prof_store.specs.declared.table_rows.RunRow.{RunRow as RunLine}
 use Rattle.page_imports.specs.Fits.{CallsFit, CellsFit}
 use Rattle.page_imports.specs.Imports.{IsNew}
 use Rattle.page_imports.specs.Names.{GetSmallNumbers, name_line, with_names}

@@ -11,7 +11,7 @@ use Rattle.plain_tables.specs.Tables.{Tables, RunRow}
 use Rattle.run_lists.specs.Listed.{AreListed}
 use Rattle.run_lists.specs.declared.listed.ListedRun.{ListedRun}
 use Rattle.run_lists.specs.declared.listed.RunLists.{RunLists}
-use Rattle.store_schema.specs.Tables.{Holds}
+use Rattle.prof_store.specs.Tables.{Holds}
 
 -- a run under this number and with this digest would be a new one
 pub record IsNew (number : ℕ) (digest : List ℕ) (t : Tables) : Type 0 where

@@ -6,7 +6,7 @@ use Rattle.plain_tables.specs.Files.{all_named, numbers_in}
 use Rattle.plain_tables.specs.Tables.{Tables, NameRow}
 use Rattle.plain_tables.specs.declared.errors.StoreError.{StoreError}
 use Rattle.page_imports.specs.RowFits.{RefusesUnless}
-use Rattle.store_schema.specs.Names.{number_if_held}
+use Rattle.prof_store.specs.Names.{number_if_held}
 use Rattle.sqlite_value.specs.declared.value.Value.TheVariants.{Blob, Null}
 use Rattle.sqlite_value.specs.Order.{Row}
 use Rattle.page_imports.specs.declared.numbering.NewName.{NewName}

@@ -5,9 +5,9 @@ use Rattle.plain_tables.specs.Changes.{has_run}
 use Rattle.plain_tables.specs.Lists.{Has}
 use Rattle.plain_tables.specs.Tables.{Tables, RunRow as Run, StoredCell, StoredCall, StoredStack}
 use Rattle.run_stores.specs.Book.{AreOf}
-use Rattle.store_schema.specs.Lines.{coef_row, derived_row, event_row}
-use Rattle.store_schema.specs.declared.table_rows.HeadRows.{HeadRows}
-use Rattle.store_schema.specs.declared.table_rows.RunRow.{RunRow}
+use Rattle.prof_store.specs.Lines.{coef_row, derived_row, event_row}
+use Rattle.prof_store.specs.declared.table_rows.HeadRows.{HeadRows}
+use Rattle.prof_store.specs.declared.table_rows.RunRow.{RunRow}
 use Rattle.page_places.specs.Keys.{AreOfNewRun}
 use Rattle.page_imports.specs.Imports.{IsNew}
 

@@ -4,9 +4,9 @@ use Rattle.cost_rows.specs.Rows.{content_of}
 use Rattle.cost_rows.specs.declared.file_rows.FileRows.{FileRows}
 use Rattle.plain_tables.specs.Tables.{Tables}
 use Rattle.run_stores.specs.Files.{with_rows, with_head}
-use Rattle.store_schema.specs.Lines.{run_row, event_row, derived_row, coef_row}
-use Rattle.store_schema.specs.declared.table_rows.RunRow.{RunRow}
-use Rattle.store_schema.specs.declared.table_rows.HeadRows.{HeadRows}
+use Rattle.prof_store.specs.Lines.{run_row, event_row, derived_row, coef_row}
+use Rattle.prof_store.specs.declared.table_rows.RunRow.{RunRow}
+use Rattle.prof_store.specs.declared.table_rows.HeadRows.{HeadRows}
 
 -- its own line and those of its head
 abbrev pub with_head_of : RunRow → HeadRows → Tables → Tables

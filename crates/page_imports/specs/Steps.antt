@@ -17,8 +17,8 @@ use Rattle.plain_tables.specs.Tables.{Tables}
 use Rattle.plain_tables.specs.declared.errors.StoreError.{StoreError}
 use Rattle.run_stores.specs.BookRuns.{Filed}
 use Rattle.run_stores.specs.Files.{with_head}
-use Rattle.store_schema.specs.Schema.{schema_two, meta_at, run_at, run_event_at, derived_at, coef_at, name_at, arc_at, stack_at, thread_cell_at}
-use Rattle.store_schema.specs.Tables.{Holds}
+use Rattle.prof_store.specs.Schema.{schema_two, meta_at, run_at, run_event_at, derived_at, coef_at, name_at, arc_at, stack_at, thread_cell_at}
+use Rattle.prof_store.specs.Tables.{Holds}
 use Rattle.page_imports.specs.Causes.{CanBePut}
 use Rattle.page_imports.specs.Imports.{IsNew}
 use Rattle.page_imports.specs.Needs.{CanFill}

@@ -15,10 +15,10 @@ use plain_tables::StoreError;
 use sqlite_value::value::ValueRef;
 use std::alloc::Global;
 use std::cmp::Ordering;
-use store_schema::{column_int_of, small_of};
+use prof_store::{column_int_of, small_of};
 
 impl PageLine for CallLine<'_> {
-    ghost use Rattle.store_schema.specs.Tables.{arc_columns};
+    ghost use Rattle.prof_store.specs.Tables.{arc_columns};
     ghost use Rattle.page_imports.specs.Lines.{call_line};
 
     ghost columns = { λ line. arc_columns (call_line line) };

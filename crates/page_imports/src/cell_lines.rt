@@ -15,10 +15,10 @@ use plain_tables::StoreError;
 use sqlite_value::value::ValueRef;
 use std::alloc::Global;
 use std::cmp::Ordering;
-use store_schema::{column_int_of, small_of};
+use prof_store::{column_int_of, small_of};
 
 impl PageLine for CellLine<'_> {
-    ghost use Rattle.store_schema.specs.Tables.{cell_columns};
+    ghost use Rattle.prof_store.specs.Tables.{cell_columns};
     ghost use Rattle.page_imports.specs.Lines.{cell_line};
 
     ghost columns = { λ line. cell_columns (cell_line line) };

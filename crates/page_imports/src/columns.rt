@@ -1,12 +1,12 @@
 // The columns of rows, without their rowids.
 ghost use Rattle.std.specs.Prelude.{◌≡◌, drop, IfOk};
-ghost use Rattle.store_schema.specs.Lines.{run_row};
-ghost use Rattle.store_schema.specs.Tables as tables;
+ghost use Rattle.prof_store.specs.Lines.{run_row};
+ghost use Rattle.prof_store.specs.Tables as tables;
 
 use sqlite_value::row::Row;
 use sqlite_value::value::ValueRef;
 use std::alloc::{AllocError, Global};
-use store_schema::RunRow;
+use prof_store::RunRow;
 
 /// The row that has the next number.
 pub(crate) fn meta_columns(alloc: Global, next: u32) -> Result<Row, AllocError>

@@ -3,10 +3,10 @@ ghost use Rattle.std.specs.Prelude.{◌≡◌, ◌<◌, ◌≤◌, ◌^◌, ◌�
 ghost use Rattle.run_stores.specs.Files.{cell_row_of, call_row_of};
 ghost use Rattle.page_imports.specs.RowFits.{CallFits, CellFits};
 ghost use Rattle.page_imports.specs.FromRows.{place_of_cell, call_of_call, line_of_stack};
-ghost use Rattle.store_schema.specs.Lines.{cell_row, call_row, stack_row};
+ghost use Rattle.prof_store.specs.Lines.{cell_row, call_row, stack_row};
 
 use cost_rows::{ArcRow, CellRow, StackRow};
-use store_schema::{ColumnInt, StoredCall, StoredCell, StoredStack, column_int_of, small_of};
+use prof_store::{ColumnInt, StoredCall, StoredCell, StoredStack, column_int_of, small_of};
 
 /// The table's number of a name that the file has under a number of its own.
 fn number_of(numbers: &[u32], name: u32) -> Option<u32>

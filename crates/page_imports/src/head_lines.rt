@@ -4,13 +4,13 @@ ghost use Rattle.run_stores.specs.Heads as specs;
 ghost use Rattle.run_stores.specs.Heads.{stated_at, event_row_of, coef_rows_at, derived_rows_from, coef_rows_from, AreStated, IsComplete, ColumnFits};
 ghost use Rattle.page_imports.specs.RowFits.{CoefsFit, DerivedFit, HeadFits, RefusesUnless};
 ghost use Rattle.page_imports.specs.Sums.{OfContent, OfColumn, AllFit};
-ghost use Rattle.store_schema.specs.Lines.{event_row, derived_row, coef_row};
+ghost use Rattle.prof_store.specs.Lines.{event_row, derived_row, coef_row};
 
 use cg_formulas::FileHead;
 use cg_text::ListVec;
 use cost_rows::FileTotals;
 use std::alloc::{AllocError, Global};
-use store_schema::{
+use prof_store::{
     CoefRow, ColumnInt, DerivedRow, EventRow, HeadRows, StoreError, column_int_of, small_of,
 };
 

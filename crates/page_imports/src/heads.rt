@@ -4,10 +4,10 @@ ghost use Rattle.sqlite_pool.specs.Pool as pools;
 ghost use Rattle.sqlite_pool.specs.Stored.{Keeps};
 ghost use Rattle.page_files.specs.Files.{IsUsable};
 ghost use Rattle.plain_tables.specs.Changes.{with_coefs, with_derived, with_events, with_next, with_run};
-ghost use Rattle.store_schema.specs.Lines.{coef_row, derived_row, event_row, run_row};
-ghost use Rattle.store_schema.specs.Schema.{meta_at, run_at, run_event_at, derived_at, coef_at};
-ghost use Rattle.store_schema.specs.Steps.{IsAbove};
-ghost use Rattle.store_schema.specs.Tables as tables;
+ghost use Rattle.prof_store.specs.Lines.{coef_row, derived_row, event_row, run_row};
+ghost use Rattle.prof_store.specs.Schema.{meta_at, run_at, run_event_at, derived_at, coef_at};
+ghost use Rattle.prof_store.specs.Steps.{IsAbove};
+ghost use Rattle.prof_store.specs.Tables as tables;
 ghost use Rattle.page_imports.specs.Runs.{with_head_of};
 ghost use Rattle.page_imports.specs.Causes.{CanBeWritten, CanPutHeadOf};
 ghost use Rattle.page_imports.specs.Needs.{CanAdd, CanBegin};
@@ -21,7 +21,7 @@ use plain_tables::StoreError;
 use row_writes::{insert, replace};
 use sqlite_disk::Disk;
 use std::alloc::Global;
-use store_schema::{CoefRow, DerivedRow, EventRow, HeadRows, RunRow};
+use prof_store::{CoefRow, DerivedRow, EventRow, HeadRows, RunRow};
 
 /// Sets the number of the next run.
 fn put_next<D: Disk>(

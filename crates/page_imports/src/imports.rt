@@ -27,7 +27,7 @@ use run_lists::RunLists;
 use run_stores::SummedFile;
 use sqlite_disk::Disk;
 use std::alloc::Global;
-use store_schema::{RunRow, column_int_of, number_of_kind};
+use prof_store::{RunRow, column_int_of, number_of_kind};
 
 /// Whether a run has this number or a greater one.
 fn is_reached(lists: &RunLists, number: u32) -> bool

@@ -3,7 +3,7 @@ ghost use Rattle.std.specs.Prelude.{◌<◌, ◌^◌, length};
 
 use crate::run_names::RunNames;
 use cost_rows::{Call, CellPlace};
-use store_schema::ColumnInt;
+use prof_store::ColumnInt;
 
 /// What an event costs at a place. The place is read off the file's rows when the line is written, so that a list of
 /// lines takes little memory.

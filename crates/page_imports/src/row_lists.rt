@@ -3,13 +3,13 @@ ghost use Rattle.std.specs.Prelude.{◌≡◌, map, IfErr, IfOk};
 ghost use Rattle.cost_rows.specs.Rows.{content_of};
 ghost use Rattle.run_stores.specs.Files.{stack_rows};
 ghost use Rattle.page_imports.specs.RowFits.{RefusesUnless, StacksFit};
-ghost use Rattle.store_schema.specs.Lines.{stack_row};
+ghost use Rattle.prof_store.specs.Lines.{stack_row};
 
 use crate::file_lines::stack_of;
 use crate::head_lines::add;
 use cost_rows::FileRows;
 use std::alloc::Global;
-use store_schema::{StoreError, StoredStack};
+use prof_store::{StoreError, StoredStack};
 
 /// The lines of the counts of stacks. `Store` where a count is too great for its column.
 pub fn stack_lines(

@@ -6,7 +6,7 @@ ghost use Rattle.cost_rows.specs.Rows.{content_of};
 ghost use Rattle.page_files.specs.Files.{IsUsable};
 ghost use Rattle.plain_tables.specs.Changes.{with_calls, with_cells, with_stacks};
 ghost use Rattle.run_stores.specs.Files.{call_rows, cell_rows, stack_rows, with_rows};
-ghost use Rattle.store_schema.specs.Schema.{arc_at, stack_at, thread_cell_at};
+ghost use Rattle.prof_store.specs.Schema.{arc_at, stack_at, thread_cell_at};
 ghost use Rattle.page_imports.specs.Causes.{CanPutCalls, CanPutCells, CanPutRows, CanPutStacks};
 ghost use Rattle.page_imports.specs.Needs.{HasNoCall, HasNoCell, HasNoRow, HasNoStack};
 ghost use Rattle.page_imports.specs.Steps.{Makes, row_tables};

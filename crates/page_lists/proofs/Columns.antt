@@ -8,8 +8,8 @@ use Rattle.sqlite_schema.specs.declared.schema.Table.{Table}
 use Rattle.prof_store.specs.Readings.{as_read, row_read, IsSaidBy, Says, SaysBehind}
 use Rattle.prof_store.proofs.Readings.{coef_entries, derived_entries, event_entries, groups_said, members_said, meta_said, runs_said}
 use Rattle.plain_tables.specs.Tables.{Tables, RunRow, EventRow, DerivedRow, CoefRow, GroupRow, MemberRow}
-use Rattle.store_schema.specs.Schema.{meta_at, run_at, run_event_at, derived_at, coef_at, grp_at, member_at}
-use Rattle.store_schema.specs.Tables.{number, number_or_null, text_or_null, meta_columns, run_columns, event_columns, derived_columns, coef_columns, group_columns, member_columns}
+use Rattle.prof_store.specs.Schema.{meta_at, run_at, run_event_at, derived_at, coef_at, grp_at, member_at}
+use Rattle.prof_store.specs.Tables.{number, number_or_null, text_or_null, meta_columns, run_columns, event_columns, derived_columns, coef_columns, group_columns, member_columns}
 use Rattle.run_lists.specs.Listed.{run_row, event_row, derived_row, coef_row, group_row, member_row}
 use Rattle.run_lists.specs.declared.listed.ListedRun.{ListedRun}
 use Rattle.run_lists.specs.declared.listed.ListedEvent.{ListedEvent}

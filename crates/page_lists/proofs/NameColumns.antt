@@ -3,8 +3,8 @@ use Rattle.std.proofs.Common.{◌≡◌, pos, List, [], ◌∷◌, map, ap, ap�
 use Rattle.sqlite_value.specs.declared.value.Value.TheVariants.{Null, Int, Blob}
 use Rattle.sqlite_value.specs.Order.{Row, column}
 use Rattle.plain_tables.specs.Tables.{NameRow}
-use Rattle.store_schema.specs.Names.{SaysName, SayNames, number_read}
-use Rattle.store_schema.specs.Tables.{name_columns, number}
+use Rattle.prof_store.specs.Names.{SaysName, SayNames, number_read}
+use Rattle.prof_store.specs.Tables.{name_columns, number}
 use Rattle.run_lists.specs.NameRows.{name_row}
 use Rattle.run_lists.specs.declared.held_names.HeldName.{HeldName}
 use Rattle.page_lists.proofs.Said.{read_as_said}

@@ -8,7 +8,7 @@ use Rattle.sqlite_trees.specs.Tree.{Trees}
 use Rattle.page_files.specs.declared.files.PageFile.{PageFile}
 use Rattle.page_files.specs.Trees.{StandsIn}
 use Rattle.page_files.proofs.Standing.{catalog_shown, table_stands, tree_shown}
-use Rattle.store_schema.specs.Schema.{schema_two, meta_at, run_at, run_event_at, derived_at, coef_at, name_at, arc_at, stack_at, grp_at, member_at, thread_cell_at}
+use Rattle.prof_store.specs.Schema.{schema_two, meta_at, run_at, run_event_at, derived_at, coef_at, name_at, arc_at, stack_at, grp_at, member_at, thread_cell_at}
 use Rattle.page_places.specs.declared.roots.StoreRoots.{StoreRoots}
 use Rattle.page_places.specs.Roots.{AreRoots}
 use Rattle.page_places.proofs.Placing.{placed_at}

@@ -8,7 +8,7 @@ use Rattle.sqlite_value.specs.declared.value.Value.{Value}
 use Rattle.sqlite_value.specs.declared.value.Value.TheVariants.{Null, Int, Real, Text, Blob}
 use Rattle.sqlite_value.specs.Order.{Row, column}
 use Rattle.prof_store.specs.Readings.{as_read, places_from, SaysBehind}
-use Rattle.store_schema.specs.Tables.{number}
+use Rattle.prof_store.specs.Tables.{number}
 use Rattle.page_lists.specs.Walks.{AreOfRun, is_of, natural, run_in}
 
 -- the columns of a row behind its first

@@ -9,8 +9,8 @@ use Rattle.std.proofs.lemmas.List.Kept.{AllPairs-cons}
 use Rattle.sqlite_value.specs.declared.value.Value.TheVariants.{Int}
 use Rattle.sqlite_value.specs.Order.{Row, column}
 use Rattle.plain_tables.specs.Tables.{NameRow}
-use Rattle.store_schema.specs.Names.{SaysName, SayNames, number_read}
-use Rattle.store_schema.specs.Tables.{number}
+use Rattle.prof_store.specs.Names.{SaysName, SayNames, number_read}
+use Rattle.prof_store.specs.Tables.{number}
 use Rattle.run_stores.specs.Book.{name_of, IsHeld}
 use Rattle.run_stores.specs.Names.{AreAmong}
 use Rattle.page_lists.specs.Among.{Rise, id_of, integer, is_among}

@@ -15,7 +15,7 @@ use Rattle.run_lists.specs.declared.listed.ListedCoef.{ListedCoef}
 use Rattle.run_lists.specs.declared.listed.ListedGroup.{ListedGroup}
 use Rattle.run_lists.specs.declared.listed.ListedMember.{ListedMember}
 use Rattle.run_lists.specs.declared.listed.RunLists.{RunLists}
-use Rattle.store_schema.specs.Tables.{number}
+use Rattle.prof_store.specs.Tables.{number}
 
 -- all columns of an entry but the last, which is the rowid of its row
 abbrev pub key_of : Row → Row

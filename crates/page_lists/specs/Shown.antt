@@ -7,7 +7,7 @@ use Rattle.sqlite_trees.specs.Tree.{Trees}
 use Rattle.sqlite_value.specs.Order.{Row}
 use Rattle.page_files.specs.declared.files.PageFile.{PageFile}
 use Rattle.page_files.specs.Trees.{ShowsTable, trees_of}
-use Rattle.store_schema.specs.Schema.{meta_at, run_at, run_event_at, derived_at, coef_at, name_at, arc_at, stack_at, grp_at, member_at, thread_cell_at}
+use Rattle.prof_store.specs.Schema.{meta_at, run_at, run_event_at, derived_at, coef_at, name_at, arc_at, stack_at, grp_at, member_at, thread_cell_at}
 use Rattle.sqlite_schema.specs.declared.schema.Table.{Table}
 use Rattle.prof_store.specs.Readings.{SaysBehind}
 use Rattle.page_lists.specs.Walks.{InOrder}

@@ -6,7 +6,7 @@ use Rattle.page_rows.specs.declared.errors.WalkError.{WalkError}
 use Rattle.page_rows.specs.declared.errors.WalkError.TheVariants.{Pages, Refused}
 use Rattle.plain_tables.specs.declared.errors.StoreError.{StoreError}
 use Rattle.plain_tables.specs.declared.errors.StoreError.TheVariants.{Memory, Store}
-use Rattle.store_schema.specs.Schema.{schema_two, meta_sql, run_sql, run_event_sql, derived_sql, coef_sql, name_sql, arc_sql, stack_sql, grp_sql, member_sql, thread_cell_sql}
+use Rattle.prof_store.specs.Schema.{schema_two, meta_sql, run_sql, run_event_sql, derived_sql, coef_sql, name_sql, arc_sql, stack_sql, grp_sql, member_sql, thread_cell_sql}
 use Rattle.page_lists.specs.declared.texts.Found.{Found}
 use Rattle.page_lists.specs.declared.texts.Found.TheVariants.{Ours, OursWithMore, Others}
 

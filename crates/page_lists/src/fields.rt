@@ -4,13 +4,13 @@ ghost use Rattle.sqlite_record.specs.Fields.{fields_left};
 ghost use Rattle.sqlite_value.specs.declared.value.Value.TheVariants.{Null, Text, Blob};
 ghost use Rattle.plain_tables.specs.Labels.{IsLabel};
 ghost use Rattle.profile_records.specs.Kinds.{kind_number};
-ghost use Rattle.store_schema.specs.Tables.{number, number_or_null, text_or_null};
+ghost use Rattle.prof_store.specs.Tables.{number, number_or_null, text_or_null};
 
 use profile_records::Kind;
 use sqlite_record::fields::Fields;
 use sqlite_value::value::ValueRef;
 use std::alloc::Global;
-use store_schema::{ColumnInt, OutOfForm, StoreError, is_label};
+use prof_store::{ColumnInt, OutOfForm, StoreError, is_label};
 
 /// A whole number from 0 on, below 2^32.
 pub fn number_in(fields: &mut Fields<'_>) -> Result<u32, OutOfForm>

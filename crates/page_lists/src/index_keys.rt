@@ -1,7 +1,7 @@
 // The keys that the rows of the small tables have in their indexes.
 ghost use Rattle.std.specs.Prelude.{◌≡◌, ◌∷◌, [], map, IfOk};
 ghost use Rattle.sqlite_value.specs.declared.value.Value.TheVariants.{Blob, Text};
-ghost use Rattle.store_schema.specs.Tables.{number};
+ghost use Rattle.prof_store.specs.Tables.{number};
 ghost use Rattle.page_lists.specs.Indexed.{coef_key, derived_name_key, derived_place_key, digest_key, event_name_key, event_place_key, group_key, member_key};
 
 use run_lists::{ListedCoef, ListedDerived, ListedEvent, ListedGroup, ListedMember, ListedRun};

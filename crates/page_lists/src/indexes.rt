@@ -4,7 +4,7 @@ ghost use Rattle.sqlite_record.specs.Fields.{fields_left};
 ghost use Rattle.sqlite_value.specs.declared.value.Value.{Value};
 ghost use Rattle.sqlite_value.specs.declared.value.Value.TheVariants.{Blob, Text};
 ghost use Rattle.page_files.specs.Files.{IsFaithful, IsUsable, OnlyReads};
-ghost use Rattle.store_schema.specs.Tables.{number};
+ghost use Rattle.prof_store.specs.Tables.{number};
 ghost use Rattle.page_lists.specs.Indexed.{AreDerivedIndexed, AreEventsIndexed, AreGroupsIndexed, AreIndexed, HasKeys};
 
 use crate::index_keys::{
@@ -67,7 +67,7 @@ fn is_rowid_left(fields: &mut Fields<'_>) -> bool
 
 impl Key for (u32, u32) {
     ghost use Rattle.std.specs.Prelude.{◌∷◌, []};
-    ghost use Rattle.store_schema.specs.Tables.{number};
+    ghost use Rattle.prof_store.specs.Tables.{number};
 
     ghost columns = { λ k. number k.0 ∷ number k.1 ∷ [] };
 
@@ -78,7 +78,7 @@ impl Key for (u32, u32) {
 
 impl Key for (u32, u32, u32) {
     ghost use Rattle.std.specs.Prelude.{◌∷◌, []};
-    ghost use Rattle.store_schema.specs.Tables.{number};
+    ghost use Rattle.prof_store.specs.Tables.{number};
 
     ghost columns = { λ k. number k.0 ∷ number k.1 ∷ number k.2 ∷ [] };
 
@@ -90,7 +90,7 @@ impl Key for (u32, u32, u32) {
 impl Key for (u32, &[u8]) {
     ghost use Rattle.std.specs.Prelude.{◌∷◌, []};
     ghost use Rattle.sqlite_value.specs.declared.value.Value.TheVariants.{Blob};
-    ghost use Rattle.store_schema.specs.Tables.{number};
+    ghost use Rattle.prof_store.specs.Tables.{number};
 
     ghost columns = { λ k. number k.0 ∷ Blob k.1.now ∷ [] };
 
@@ -124,7 +124,7 @@ impl Key for &str {
 impl Key for (&str, u32) {
     ghost use Rattle.std.specs.Prelude.{◌∷◌, []};
     ghost use Rattle.sqlite_value.specs.declared.value.Value.TheVariants.{Text};
-    ghost use Rattle.store_schema.specs.Tables.{number};
+    ghost use Rattle.prof_store.specs.Tables.{number};
 
     ghost columns = { λ k. Text k.0.now ∷ number k.1 ∷ [] };
 

@@ -7,7 +7,7 @@ ghost use Rattle.plain_tables.specs.Tables.{Tables};
 ghost use Rattle.run_lists.specs.HeldRuns.{NameHeldRuns};
 ghost use Rattle.run_lists.specs.Listed.{AreListed};
 ghost use Rattle.prof_store.specs.Readings.{RowsSay};
-ghost use Rattle.store_schema.specs.Tables.{meta_columns};
+ghost use Rattle.prof_store.specs.Tables.{meta_columns};
 ghost use Rattle.page_lists.specs.Meta.{IsMeta};
 ghost use Rattle.page_lists.specs.Shown.{StandUnder, ShowsRows};
 

@@ -8,8 +8,8 @@ ghost use Rattle.plain_tables.specs.Tables.{NameRow};
 ghost use Rattle.run_stores.specs.Book.{IsHeld};
 ghost use Rattle.run_stores.specs.Names.{AreAmong};
 ghost use Rattle.page_files.specs.Files.{IsFaithful, OnlyReads};
-ghost use Rattle.store_schema.specs.Names.{SayNames};
-ghost use Rattle.store_schema.specs.Tables.{name_columns};
+ghost use Rattle.prof_store.specs.Names.{SayNames};
+ghost use Rattle.prof_store.specs.Tables.{name_columns};
 ghost use Rattle.page_lists.specs.Shown.{ShowsRows};
 ghost use Rattle.page_lists.specs.Names.{name_read};
 
@@ -24,7 +24,7 @@ use plain_tables::StoreError;
 use sqlite_disk::Disk;
 use sqlite_record::fields::Fields;
 use std::alloc::Global;
-use store_schema::OutOfForm;
+use prof_store::OutOfForm;
 
 /// A number and its name, where the name lies in the record.
 pub(crate) fn name_in(rowid: i64, payload: &[u8]) -> Result<(u32, &[u8]), OutOfForm>
@@ -40,7 +40,7 @@ pub(crate) fn name_in(rowid: i64, payload: &[u8]) -> Result<(u32, &[u8]), OutOfF
 
 impl FromRecord for HeldName {
     ghost use Rattle.run_lists.specs.NameRows.{name_row};
-    ghost use Rattle.store_schema.specs.Tables.{name_columns};
+    ghost use Rattle.prof_store.specs.Tables.{name_columns};
 
     ghost seen = { λ row. row };
 
@@ -89,7 +89,7 @@ pub fn names_among<D: Disk>(
 /// The number of a name, whose record is not read.
 impl FromRecord for u32 {
     ghost use Rattle.std.specs.Prelude.{◌∷◌, [], take};
-    ghost use Rattle.store_schema.specs.Tables.{number};
+    ghost use Rattle.prof_store.specs.Tables.{number};
 
     ghost seen = { take 1 };
 

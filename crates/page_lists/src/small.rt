@@ -12,7 +12,7 @@ use run_lists::{ListedCoef, ListedDerived, ListedEvent, ListedGroup, ListedMembe
 use run_stores::RunEntry;
 use sqlite_record::fields::Fields;
 use std::alloc::Global;
-use store_schema::OutOfForm;
+use prof_store::OutOfForm;
 
 /// A rowid that is a key: a whole number from 0 on, below 2^32.
 pub(crate) fn key_of(rowid: i64) -> Result<u32, OutOfForm>
@@ -31,7 +31,7 @@ pub(crate) struct Meta {
 impl FromRecord for Meta {
     ghost use Rattle.std.specs.Prelude.{◌∷◌, []};
     ghost use Rattle.sqlite_value.specs.declared.value.Value.TheVariants.{Null};
-    ghost use Rattle.store_schema.specs.Tables.{number};
+    ghost use Rattle.prof_store.specs.Tables.{number};
 
     ghost seen = { λ row. row };
 
@@ -52,7 +52,7 @@ impl FromRecord for Meta {
 
 impl FromRecord for ListedRun {
     ghost use Rattle.run_lists.specs.Listed.{run_row};
-    ghost use Rattle.store_schema.specs.Tables.{run_columns};
+    ghost use Rattle.prof_store.specs.Tables.{run_columns};
 
     ghost seen = { λ row. row };
 
@@ -80,7 +80,7 @@ impl FromRecord for ListedRun {
 impl FromRecord for ListedEvent {
     ghost use Rattle.std.specs.Prelude.{drop};
     ghost use Rattle.run_lists.specs.Listed.{event_row};
-    ghost use Rattle.store_schema.specs.Tables.{event_columns};
+    ghost use Rattle.prof_store.specs.Tables.{event_columns};
 
     ghost seen = { drop 1 };
 
@@ -109,7 +109,7 @@ impl FromRecord for ListedEvent {
 impl FromRecord for ListedDerived {
     ghost use Rattle.std.specs.Prelude.{drop};
     ghost use Rattle.run_lists.specs.Listed.{derived_row};
-    ghost use Rattle.store_schema.specs.Tables.{derived_columns};
+    ghost use Rattle.prof_store.specs.Tables.{derived_columns};
 
     ghost seen = { drop 1 };
 
@@ -132,7 +132,7 @@ impl FromRecord for ListedDerived {
 impl FromRecord for ListedCoef {
     ghost use Rattle.std.specs.Prelude.{drop};
     ghost use Rattle.run_lists.specs.Listed.{coef_row};
-    ghost use Rattle.store_schema.specs.Tables.{coef_columns};
+    ghost use Rattle.prof_store.specs.Tables.{coef_columns};
 
     ghost seen = { drop 1 };
 
@@ -157,7 +157,7 @@ impl FromRecord for ListedCoef {
 impl FromRecord for ListedGroup {
     ghost use Rattle.std.specs.Prelude.{drop};
     ghost use Rattle.run_lists.specs.Listed.{group_row};
-    ghost use Rattle.store_schema.specs.Tables.{group_columns};
+    ghost use Rattle.prof_store.specs.Tables.{group_columns};
 
     ghost seen = { drop 1 };
 
@@ -175,7 +175,7 @@ impl FromRecord for ListedGroup {
 impl FromRecord for ListedMember {
     ghost use Rattle.std.specs.Prelude.{drop};
     ghost use Rattle.run_lists.specs.Listed.{member_row};
-    ghost use Rattle.store_schema.specs.Tables.{member_columns};
+    ghost use Rattle.prof_store.specs.Tables.{member_columns};
 
     ghost seen = { drop 1 };
 

@@ -7,7 +7,7 @@ use Rattle.sqlite_trees.specs.Tree.{Trees}
 use Rattle.sqlite_rules.specs.Lists.{Has}
 use Rattle.plain_tables.specs.Changes.{has_baseline, is_named, unbased}
 use Rattle.plain_tables.specs.Tables.{Tables, GroupRow}
-use Rattle.store_schema.specs.Tables.{Holds, group_columns}
+use Rattle.prof_store.specs.Tables.{Holds, group_columns}
 use Rattle.page_places.specs.Unused.{cleared}
 use Rattle.page_places.proofs.OneLine.{one_of_name}
 

@@ -18,8 +18,8 @@ use Rattle.sql_tables.proofs.Deletes.{row_of}
 use Rattle.sql_tables.proofs.Rows.{id_of}
 use Rattle.plain_tables.specs.Lists.{IsAscending}
 use Rattle.plain_tables.specs.Tables.{EventRow, DerivedRow, CoefRow, NameRow, StoredCell, StoredCall, StoredStack}
-use Rattle.store_schema.specs.Schema.{run_event_at, derived_at, coef_at, name_at, thread_cell_at, arc_at, stack_at}
-use Rattle.store_schema.specs.Tables.{event_columns, derived_columns, coef_columns, name_columns, cell_columns, arc_columns, stack_columns, number}
+use Rattle.prof_store.specs.Schema.{run_event_at, derived_at, coef_at, name_at, thread_cell_at, arc_at, stack_at}
+use Rattle.prof_store.specs.Tables.{event_columns, derived_columns, coef_columns, name_columns, cell_columns, arc_columns, stack_columns, number}
 use Rattle.page_places.specs.Keys.{Differ, HeadsDiffer, same_head, event_key, event_name_key, derived_key, derived_name_key, coef_key, cell_key, call_key, stack_key}
 use Rattle.page_places.proofs.Contents.{Lined}
 

@@ -13,8 +13,8 @@ use Rattle.sqlite_sql.specs.Catalog.{IsIndexOf}
 use Rattle.sql_tables.specs.Contents.{rows_that_count}
 use Rattle.plain_tables.specs.Changes.{has_name, has_run, with_calls, with_cells, with_coefs, with_derived, with_events, with_stacks}
 use Rattle.plain_tables.specs.Tables.{Tables, EventRow, DerivedRow, CoefRow, NameRow, StoredCell, StoredCall, StoredStack}
-use Rattle.store_schema.specs.Schema.{run_event_at, derived_at, coef_at, name_at, thread_cell_at, arc_at, stack_at}
-use Rattle.store_schema.specs.Tables.{Holds, event_columns, derived_columns, coef_columns, name_columns, cell_columns, arc_columns, stack_columns}
+use Rattle.prof_store.specs.Schema.{run_event_at, derived_at, coef_at, name_at, thread_cell_at, arc_at, stack_at}
+use Rattle.prof_store.specs.Tables.{Holds, event_columns, derived_columns, coef_columns, name_columns, cell_columns, arc_columns, stack_columns}
 use Rattle.page_places.specs.TableChanges.{SparesBut}
 use Rattle.page_places.specs.Fills.{Fills}
 use Rattle.page_places.specs.Keys.{AreOfNewRun}

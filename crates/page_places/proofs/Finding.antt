@@ -23,9 +23,9 @@ use Rattle.plain_tables.specs.Files.{number_in}
 use Rattle.plain_tables.specs.Tables.{Tables, NameRow}
 use Rattle.plain_tables.specs.declared.errors.StoreError.{StoreError}
 use Rattle.plain_tables.specs.declared.errors.StoreError.TheVariants.{Store}
-use Rattle.store_schema.specs.Names.{SaysName, number_if_held, number_read}
-use Rattle.store_schema.specs.Tables.{number}
-use Rattle.store_schema.proofs.Names.{line_named, name_of_row, row_of_name}
+use Rattle.prof_store.specs.Names.{SaysName, number_if_held, number_read}
+use Rattle.prof_store.specs.Tables.{number}
+use Rattle.prof_store.proofs.Names.{line_named, name_of_row, row_of_name}
 use Rattle.page_rows.specs.Walks.{MayRefuse}
 use Rattle.page_places.specs.Stores.{HoldsNames}
 use Rattle.page_places.specs.Names.{EndsAt, HasWideNumber, IsRefused}

@@ -20,8 +20,8 @@ use Rattle.sql_tables.proofs.Deletes.{row_of}
 use Rattle.sql_tables.proofs.Rows.{id_of}
 use Rattle.plain_tables.specs.Changes.{has_group, has_run, is_named, with_group}
 use Rattle.plain_tables.specs.Tables.{Tables, GroupRow, MemberRow}
-use Rattle.store_schema.specs.Schema.{schema_two, to, run_at, grp_at, member_at}
-use Rattle.store_schema.specs.Tables.{Holds, contents_of, group_columns, member_columns, number_or_null}
+use Rattle.prof_store.specs.Schema.{schema_two, to, run_at, grp_at, member_at}
+use Rattle.prof_store.specs.Tables.{Holds, contents_of, group_columns, member_columns, number_or_null}
 use Rattle.page_places.specs.TableChanges.{OnlyChanges, StillRefer, key_places}
 use Rattle.page_places.specs.Keys.{AreNew}
 use Rattle.page_places.proofs.Behind.{sound_behind}

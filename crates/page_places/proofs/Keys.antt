@@ -21,8 +21,8 @@ use Rattle.sqlite_rules.proofs.ListLemmas.{all_has, has_either, some_has}
 use Rattle.plain_tables.specs.Lists.{IsAscending}
 use Rattle.sql_tables.proofs.Deletes.{row_of}
 use Rattle.sql_tables.proofs.Rows.{id_of, numbers_equal, texts_equal}
-use Rattle.store_schema.specs.Tables.{number}
-use Rattle.store_schema.proofs.Values.{blobs_equal}
+use Rattle.prof_store.specs.Tables.{number}
+use Rattle.prof_store.proofs.Values.{blobs_equal}
 use Rattle.page_places.specs.Keys.{AreNew}
 use Rattle.page_places.proofs.Contents.{Lined, line_of}
 

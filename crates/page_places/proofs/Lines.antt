@@ -13,8 +13,8 @@ use Rattle.sql_tables.proofs.Contents.{content_there}
 use Rattle.sql_tables.proofs.Deletes.{row_of}
 use Rattle.sql_tables.proofs.Rows.{Numbered, id_of}
 use Rattle.plain_tables.specs.Tables.{Tables}
-use Rattle.store_schema.specs.Schema.{schema_two}
-use Rattle.store_schema.specs.Tables.{Holds, contents_of}
+use Rattle.prof_store.specs.Schema.{schema_two}
+use Rattle.prof_store.specs.Tables.{Holds, contents_of}
 use Rattle.page_places.specs.TableChanges.{AreFit, OnlyChanges, StillRefer}
 use Rattle.page_places.proofs.Behind.{sound_behind}
 use Rattle.page_places.proofs.Contents.{Lined, contain_changed, content_of, lined, lined_append, lined_content, lined_filter}

@@ -20,8 +20,8 @@ use Rattle.sql_tables.proofs.Deletes.{row_of}
 use Rattle.sql_tables.proofs.Rows.{id_of}
 use Rattle.plain_tables.specs.Changes.{has_group, has_member, has_run, is_member, with_member, without_member}
 use Rattle.plain_tables.specs.Tables.{Tables, MemberRow}
-use Rattle.store_schema.specs.Schema.{schema_two, to, run_at, grp_at, member_at}
-use Rattle.store_schema.specs.Tables.{Holds, contents_of, group_columns, member_columns}
+use Rattle.prof_store.specs.Schema.{schema_two, to, run_at, grp_at, member_at}
+use Rattle.prof_store.specs.Tables.{Holds, contents_of, group_columns, member_columns}
 use Rattle.page_places.specs.TableChanges.{OnlyChanges, StillRefer}
 use Rattle.page_places.specs.Keys.{AreNew, member_key}
 use Rattle.page_places.proofs.Behind.{sound_behind}

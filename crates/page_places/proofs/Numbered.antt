@@ -20,8 +20,8 @@ use Rattle.sql_tables.proofs.Deletes.{row_of}
 use Rattle.plain_tables.specs.Changes.{with_next, with_run}
 use Rattle.plain_tables.proofs.Lists.{all-append}
 use Rattle.plain_tables.specs.Tables.{Tables, RunRow, NameRow}
-use Rattle.store_schema.specs.Schema.{schema_two, meta_at, run_at, name_at}
-use Rattle.store_schema.specs.Tables.{Holds, contents_of, meta_columns, run_columns, name_columns}
+use Rattle.prof_store.specs.Schema.{schema_two, meta_at, run_at, name_at}
+use Rattle.prof_store.specs.Tables.{Holds, contents_of, meta_columns, run_columns, name_columns}
 use Rattle.page_places.specs.TableChanges.{OnlyChanges, key_places}
 use Rattle.page_places.specs.Keys.{AreNew}
 use Rattle.page_places.proofs.Contents.{Lined, contain_changed}

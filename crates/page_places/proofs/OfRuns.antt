@@ -18,8 +18,8 @@ use Rattle.plain_tables.specs.Changes.{has_run, with_calls, with_cells, with_coe
 use Rattle.plain_tables.specs.Sound.{AreOfRuns}
 use Rattle.plain_tables.specs.Tables.{Tables, EventRow, DerivedRow, CoefRow, StoredCell, StoredCall, StoredStack}
 use Rattle.sql_tables.specs.Contents.{rows_that_count}
-use Rattle.store_schema.specs.Schema.{schema_two, to, run_at, run_event_at, derived_at, coef_at, thread_cell_at, arc_at, stack_at}
-use Rattle.store_schema.specs.Tables.{Holds, event_columns, derived_columns, coef_columns, cell_columns, arc_columns, stack_columns, number}
+use Rattle.prof_store.specs.Schema.{schema_two, to, run_at, run_event_at, derived_at, coef_at, thread_cell_at, arc_at, stack_at}
+use Rattle.prof_store.specs.Tables.{Holds, event_columns, derived_columns, coef_columns, cell_columns, arc_columns, stack_columns, number}
 use Rattle.page_places.specs.TableChanges.{OnlyChanges}
 use Rattle.page_places.specs.Keys.{AreNew, AreOfNewRun, Differ, event_key, event_name_key, derived_key, derived_name_key, coef_key, cell_key, call_key, stack_key}
 use Rattle.page_places.proofs.Contents.{Lined, line_of}

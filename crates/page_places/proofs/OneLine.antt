@@ -18,8 +18,8 @@ use Rattle.sqlite_rules.proofs.RuleLemmas.{keeps_at}
 use Rattle.sql_tables.proofs.Rows.{id_of, numbers_equal, own_id, texts_equal}
 use Rattle.plain_tables.specs.Changes.{has_run, is_member, is_named, rebased, with_baseline, without_member}
 use Rattle.plain_tables.specs.Tables.{Tables, GroupRow, MemberRow}
-use Rattle.store_schema.specs.Schema.{schema_two, grp_at, member_at}
-use Rattle.store_schema.specs.Tables.{Holds, group_columns, member_columns, number_or_null}
+use Rattle.prof_store.specs.Schema.{schema_two, grp_at, member_at}
+use Rattle.prof_store.specs.Tables.{Holds, group_columns, member_columns, number_or_null}
 use Rattle.page_places.specs.TableChanges.{OnlyChanges}
 use Rattle.page_places.proofs.Contents.{row_of_line}
 use Rattle.page_places.proofs.Groups.{baseline_in, group_taken_out, groups_replaced, name_of}

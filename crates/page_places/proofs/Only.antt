@@ -10,7 +10,7 @@ use Rattle.sqlite_schema.specs.declared.schema.Schema.{Schema}
 use Rattle.sqlite_schema.specs.declared.schema.Table.{Table}
 use Rattle.sqlite_rules.proofs.ListLemmas.{all_from, all_has, test_has}
 use Rattle.sqlite_catalog.specs.Listing.{IsSound}
-use Rattle.store_schema.specs.Schema.{schema_two, run_event_at, derived_at, coef_at, name_at, arc_at, stack_at, thread_cell_at}
+use Rattle.prof_store.specs.Schema.{schema_two, run_event_at, derived_at, coef_at, name_at, arc_at, stack_at, thread_cell_at}
 use Rattle.page_places.specs.TableChanges.{OnlyChanges, SparesBut, Where}
 use Rattle.page_places.proofs.TakenOut.{where_true}
 

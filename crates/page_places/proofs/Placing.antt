@@ -21,7 +21,7 @@ use Rattle.sqlite_catalog.proofs.LayoutLemmas.{zipped_left}
 use Rattle.sqlite_store.specs.declared.catalog.Wanted.{Wanted}
 use Rattle.sqlite_store.specs.Catalog.{shape_at, reals_at}
 use Rattle.sqlite_store.specs.Listing.{listed, listed_from}
-use Rattle.store_schema.specs.Schema.{schema_two}
+use Rattle.prof_store.specs.Schema.{schema_two}
 use Rattle.page_rows.specs.Tables.{description_at}
 use Rattle.page_places.specs.Placed.{IsIndexPlaced, IsPlaced}
 use Rattle.page_places.specs.Roots.{index_name}

@@ -16,8 +16,8 @@ use Rattle.sqlite_rules.proofs.ProbeLemmas.{has_mapped}
 use Rattle.sqlite_rules.proofs.RuleLemmas.{refers_at}
 use Rattle.plain_tables.specs.Changes.{has_group, has_run, is_named}
 use Rattle.plain_tables.specs.Tables.{Tables, RunRow, GroupRow, MemberRow}
-use Rattle.store_schema.specs.Schema.{schema_two, to, grp_at, member_at}
-use Rattle.store_schema.specs.Tables.{Holds, run_columns, group_columns, member_columns, number, number_or_null}
+use Rattle.prof_store.specs.Schema.{schema_two, to, grp_at, member_at}
+use Rattle.prof_store.specs.Tables.{Holds, run_columns, group_columns, member_columns, number, number_or_null}
 use Rattle.page_places.proofs.Contents.{line_of, lined_content, row_of_line}
 use Rattle.page_places.proofs.Store.{baseline_key, baseline_of, group_key, groups_lined, members_there, numbers_agree, run_key, runs_there, texts_agree}
 

@@ -11,7 +11,7 @@ use Rattle.page_files.specs.Files.{OnlyReads}
 use Rattle.page_files.specs.Held.{Rests}
 use Rattle.page_files.proofs.Standing.{shows_resting, stands_after, stands_resting}
 use Rattle.sqlite_catalog.specs.Listing.{IsSound}
-use Rattle.store_schema.specs.Schema.{schema_two}
+use Rattle.prof_store.specs.Schema.{schema_two}
 use Rattle.page_places.specs.Roots.{AreFound, AreNames, IsStoreOf}
 
 module _ {D : Type 0} {g : Ghosts D} where

@@ -24,9 +24,9 @@ use Rattle.sql_tables.proofs.Deletes.{row_of}
 use Rattle.sql_tables.proofs.Rows.{filter_same_on, id_of}
 use Rattle.plain_tables.specs.Changes.{has_baseline, has_run, is_baseline, unbased, without_run}
 use Rattle.plain_tables.specs.Tables.{Tables, RunRow, EventRow, DerivedRow, CoefRow, StoredCell, StoredCall, StoredStack, GroupRow, MemberRow}
-use Rattle.store_schema.specs.Schema.{schema_two, to, run_at, run_event_at, derived_at, coef_at, thread_cell_at, arc_at, stack_at, grp_at, member_at}
-use Rattle.store_schema.specs.Tables.{Holds, run_columns, event_columns, derived_columns, coef_columns, cell_columns, arc_columns, stack_columns, group_columns, member_columns, number, number_or_null}
-use Rattle.store_schema.proofs.Sound.{sound_of}
+use Rattle.prof_store.specs.Schema.{schema_two, to, run_at, run_event_at, derived_at, coef_at, thread_cell_at, arc_at, stack_at, grp_at, member_at}
+use Rattle.prof_store.specs.Tables.{Holds, run_columns, event_columns, derived_columns, coef_columns, cell_columns, arc_columns, stack_columns, group_columns, member_columns, number, number_or_null}
+use Rattle.prof_store.proofs.Sound.{sound_of}
 use Rattle.page_places.specs.TableChanges.{OnlyChanges, StillRefer}
 use Rattle.page_places.specs.Unused.{IsUnused, but_its_row}
 use Rattle.page_places.proofs.Contents.{Lined, line_of}

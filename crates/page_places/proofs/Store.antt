@@ -23,8 +23,8 @@ use Rattle.sql_tables.proofs.Deletes.{row_of}
 use Rattle.sql_tables.proofs.Rows.{id_of, numbers_equal, texts_equal}
 use Rattle.plain_tables.specs.Changes.{is_named}
 use Rattle.plain_tables.specs.Tables.{Tables, RunRow, GroupRow}
-use Rattle.store_schema.specs.Schema.{schema_two, to, grp_at, member_at}
-use Rattle.store_schema.specs.Tables.{Holds, contents_of, run_columns, group_columns, member_columns, number}
+use Rattle.prof_store.specs.Schema.{schema_two, to, grp_at, member_at}
+use Rattle.prof_store.specs.Tables.{Holds, contents_of, run_columns, group_columns, member_columns, number}
 use Rattle.page_places.specs.TableChanges.{IsOneOf, OnlyChanges}
 use Rattle.page_places.proofs.Contents.{Lined, line_of, lined_content, row_of_line}
 

@@ -8,10 +8,10 @@ use Rattle.page_files.specs.declared.files.PageFile.{PageFile}
 use Rattle.page_files.specs.Held.{Writes}
 use Rattle.page_files.proofs.Standing.{stands_writing}
 use Rattle.plain_tables.specs.Tables.{Tables}
-use Rattle.store_schema.specs.Schema.{schema_two, name_at}
-use Rattle.store_schema.specs.Names.{SayNames}
-use Rattle.store_schema.specs.Tables.{Holds, contents_of}
-use Rattle.store_schema.proofs.Names.{names_say}
+use Rattle.prof_store.specs.Schema.{schema_two, name_at}
+use Rattle.prof_store.specs.Names.{SayNames}
+use Rattle.prof_store.specs.Tables.{Holds, contents_of}
+use Rattle.prof_store.proofs.Names.{names_say}
 use Rattle.page_places.specs.Stores.{HoldsNames, ShowsNames}
 
 -- where tables hold rows, those of names say them

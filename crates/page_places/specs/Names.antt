@@ -9,8 +9,8 @@ use Rattle.plain_tables.specs.Lists.{Has}
 use Rattle.plain_tables.specs.Tables.{Tables, NameRow}
 use Rattle.plain_tables.specs.declared.errors.StoreError.{StoreError}
 use Rattle.plain_tables.specs.declared.errors.StoreError.TheVariants.{Store}
-use Rattle.store_schema.specs.Names.{number_if_held}
-use Rattle.store_schema.specs.Tables.{number}
+use Rattle.prof_store.specs.Names.{number_if_held}
+use Rattle.prof_store.specs.Tables.{number}
 use Rattle.page_places.specs.Failures.{IsFailureOf}
 use Rattle.page_places.specs.Stores.{ShowsNames}
 

@@ -10,7 +10,7 @@ use Rattle.sqlite_trees.specs.Tree.{Trees}
 use Rattle.page_files.specs.declared.files.PageFile.{PageFile}
 use Rattle.page_files.specs.Files.{pages_of, IsFaithful, FailsToRead}
 use Rattle.page_files.specs.Trees.{StandsIn}
-use Rattle.store_schema.specs.Schema.{schema_two, meta_at, run_at, run_event_at, derived_at, coef_at, name_at, arc_at, stack_at, grp_at, member_at, thread_cell_at}
+use Rattle.prof_store.specs.Schema.{schema_two, meta_at, run_at, run_event_at, derived_at, coef_at, name_at, arc_at, stack_at, grp_at, member_at, thread_cell_at}
 use Rattle.plain_tables.specs.declared.errors.StoreError.{StoreError}
 use Rattle.page_places.specs.Failures.{IsFailureOf}
 use Rattle.page_places.specs.declared.roots.StoreRoots.{StoreRoots}

@@ -7,8 +7,8 @@ use Rattle.sqlite_trees.specs.Tree.{Trees}
 use Rattle.page_files.specs.declared.files.PageFile.{PageFile}
 use Rattle.page_files.specs.Trees.{StandsIn}
 use Rattle.plain_tables.specs.Tables.{Tables}
-use Rattle.store_schema.specs.Schema.{schema_two, name_at}
-use Rattle.store_schema.specs.Names.{SayNames}
+use Rattle.prof_store.specs.Schema.{schema_two, name_at}
+use Rattle.prof_store.specs.Names.{SayNames}
 
 -- a sound database of our tables, whatever stands in the others: whoever wrote its rows of names, they say these
 pub record HoldsNames (t : Tables) (db : Trees) : Type 0 where

@@ -3,7 +3,7 @@ ghost use Rattle.std.specs.Prelude.{◌≡◌, ◌∷◌, [], IfOk, IfErr, OnOk}
 ghost use Rattle.sqlite_record.specs.Record.{decode};
 ghost use Rattle.sqlite_value.specs.declared.value.Value.TheVariants.{Blob};
 ghost use Rattle.page_files.specs.Files.{IsUsable, OnlyReads};
-ghost use Rattle.store_schema.specs.Tables.{number};
+ghost use Rattle.prof_store.specs.Tables.{number};
 ghost use Rattle.page_places.specs.Names.{FindsName, IsRefused};
 
 use crate::failures::error_of_walk;

@@ -2,7 +2,7 @@
 ghost use Rattle.std.specs.Prelude.{◌≡◌, ℕ, List, IfErr, IfOk, OnOk};
 ghost use Rattle.sqlite_trees.specs.Tree.{Trees};
 ghost use Rattle.page_files.specs.Files.{IsFaithful, IsUsable, OnlyReads};
-ghost use Rattle.store_schema.specs.Schema.{schema_two};
+ghost use Rattle.prof_store.specs.Schema.{schema_two};
 ghost use Rattle.page_places.specs.Roots.{AreFound, AreNames, AreRoots, FailsInStore, FindsIndex, FindsTable, IsStoreOf, MissesIndex, MissesTable};
 ghost use Rattle.page_places.specs.Roots.{index_name, index_tree, table_name, table_tree};
 

@@ -19,9 +19,9 @@ use Rattle.plain_tables.specs.Sound.{AreSound}
 use Rattle.run_stores.specs.Order.{AreInOrder}
 use Rattle.run_stores.specs.Calls as calls
 use Rattle.run_stores.specs.Calls.{Are, Become, Changed, Given}
-use Rattle.store_schema.specs.Schema.{schema_two}
-use Rattle.store_schema.specs.Tables.{Holds}
-use Rattle.store_schema.proofs.Sound.{sound_of}
+use Rattle.prof_store.specs.Schema.{schema_two}
+use Rattle.prof_store.specs.Tables.{Holds}
+use Rattle.prof_store.proofs.Sound.{sound_of}
 use Rattle.page_runs.specs.Finished.{Finishes, IsUndone}
 use Rattle.page_places.specs.Roots.{AreRoots}
 use Rattle.page_runs.specs.States.{HoldsTables, IsFaithful, IsSettled, Left, ReadsAs, Represents, ShowsTables, held_by, kept, may_leave, state_of}

@@ -17,7 +17,7 @@ use Rattle.plain_tables.specs.Tables.{Tables}
 use Rattle.plain_tables.specs.declared.errors.StoreError.{StoreError}
 use Rattle.run_lists.specs.Listed.{AreListed}
 use Rattle.run_lists.specs.declared.listed.RunLists.{RunLists}
-use Rattle.store_schema.specs.Tables.{Holds}
+use Rattle.prof_store.specs.Tables.{Holds}
 use Rattle.page_runs.specs.Finished.{Commits, Finishes, IsUndone}
 use Rattle.page_places.specs.Roots.{AreRoots}
 use Rattle.page_lists.specs.Shown.{StandUnder}

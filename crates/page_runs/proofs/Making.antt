@@ -4,7 +4,7 @@ use Rattle.sqlite_disk.specs.declared.Disk.{Ghosts}
 use Rattle.page_changes.specs.Changes as groups
 use Rattle.plain_tables.specs.Tables.{Tables}
 use Rattle.plain_tables.specs.declared.errors.StoreError.{StoreError}
-use Rattle.store_schema.specs.Tables.{Holds}
+use Rattle.prof_store.specs.Tables.{Holds}
 use Rattle.page_files.specs.Held.{Rests, Writes}
 use Rattle.run_lists.specs.Listed.{AreListed}
 use Rattle.sqlite_store.specs.declared.catalog.Wanted.{Wanted}

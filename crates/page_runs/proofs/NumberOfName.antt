@@ -12,8 +12,8 @@ use Rattle.run_stores.specs.Names.{IsNumberOf}
 use Rattle.plain_tables.specs.Lists.{Has}
 use Rattle.plain_tables.proofs.Lists.{all_has}
 use Rattle.sqlite_value.specs.Order.{Row}
-use Rattle.store_schema.specs.Names.{SaysName, SayNames, number_if_held, number_read}
-use Rattle.store_schema.proofs.Names.{is_held, not_held, row_of_name}
+use Rattle.prof_store.specs.Names.{SaysName, SayNames, number_if_held, number_read}
+use Rattle.prof_store.proofs.Names.{is_held, not_held, row_of_name}
 use Rattle.run_lists.proofs.NumbersOfNames.{IsOther, none_named}
 use Rattle.page_lists.specs.Among.{Rise, id_of, integer}
 

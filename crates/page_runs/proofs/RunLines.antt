@@ -4,9 +4,9 @@ use Rattle.sqlite_disk.specs.declared.Disk.{Ghosts}
 use Rattle.sqlite_value.specs.Order.{Row, column}
 use Rattle.plain_tables.specs.RunRows.{calls_in, cells_in, stacks_in}
 use Rattle.plain_tables.specs.Tables.{Tables, StoredCall, StoredCell, StoredStack}
-use Rattle.store_schema.specs.Schema.{arc_at, stack_at, thread_cell_at}
-use Rattle.store_schema.specs.Tables.{arc_columns, cell_columns, stack_columns}
-use Rattle.store_schema.proofs.RunRows.{one_call, one_cell, one_stack}
+use Rattle.prof_store.specs.Schema.{arc_at, stack_at, thread_cell_at}
+use Rattle.prof_store.specs.Tables.{arc_columns, cell_columns, stack_columns}
+use Rattle.prof_store.proofs.RunRows.{one_call, one_cell, one_stack}
 use Rattle.page_files.specs.declared.files.PageFile.{PageFile}
 use Rattle.page_lists.specs.Shown.{ShowsLines}
 use Rattle.page_lists.specs.Walks.{AreOfRun}

@@ -8,9 +8,9 @@ use Rattle.sql_tables.proofs.Contents.{content_there}
 use Rattle.plain_tables.specs.Tables.{Tables, StoredCell, StoredCall, StoredStack}
 use Rattle.prof_store.proofs.Readings.{calls_said, cells_said, names_said, stacks_said}
 use Rattle.prof_store.proofs.Told.{held_said, said}
-use Rattle.store_schema.specs.Schema.{schema_two, name_at, thread_cell_at, arc_at, stack_at}
-use Rattle.store_schema.specs.Names.{SayNames}
-use Rattle.store_schema.specs.Tables.{Holds, contents_of, cell_columns, arc_columns, stack_columns}
+use Rattle.prof_store.specs.Schema.{schema_two, name_at, thread_cell_at, arc_at, stack_at}
+use Rattle.prof_store.specs.Names.{SayNames}
+use Rattle.prof_store.specs.Tables.{Holds, contents_of, cell_columns, arc_columns, stack_columns}
 use Rattle.run_lists.specs.Listed.{AreListed}
 use Rattle.page_files.specs.Files.{IsUsable}
 use Rattle.page_files.specs.Held.{Rests}

@@ -14,7 +14,7 @@ use Rattle.plain_tables.specs.Tables.{Tables}
 use Rattle.plain_tables.specs.declared.errors.StoreError.{StoreError}
 use Rattle.run_lists.specs.declared.listed.RunLists.{RunLists}
 use Rattle.run_stores.specs.Order.{AreInOrder}
-use Rattle.store_schema.specs.Tables.{Holds}
+use Rattle.prof_store.specs.Tables.{Holds}
 use Rattle.page_places.specs.Roots.{AreRoots}
 use Rattle.page_runs.specs.Kept.{IsForgotten}
 use Rattle.page_runs.specs.States.{Represents}

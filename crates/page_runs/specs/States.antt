@@ -21,9 +21,9 @@ use Rattle.plain_tables.specs.Tables.{Tables}
 use Rattle.run_lists.specs.Listed.{AreListed}
 use Rattle.run_stores.specs.Order.{AreInOrder}
 use Rattle.prof_store.specs.Readings.{RowsSay}
-use Rattle.store_schema.specs.Schema.{schema_two, arc_at, stack_at, thread_cell_at}
-use Rattle.store_schema.specs.Tables.{Holds}
-use Rattle.store_schema.proofs.Sound.{sound_of}
+use Rattle.prof_store.specs.Schema.{schema_two, arc_at, stack_at, thread_cell_at}
+use Rattle.prof_store.specs.Tables.{Holds}
+use Rattle.prof_store.proofs.Sound.{sound_of}
 use Rattle.run_stores.specs.declared.states.StoreState.{Ghosts as StoreGhosts}
 use Rattle.page_places.specs.Roots.{AreRoots}
 use Rattle.page_runs.specs.Kept.{AreKept}

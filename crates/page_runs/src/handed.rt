@@ -3,8 +3,8 @@ ghost use Rattle.std.specs.Prelude.{◌≡◌, ◌∷◌, List, map, IfOk};
 ghost use Rattle.sqlite_record.specs.Fields.{fields_left};
 ghost use Rattle.plain_tables.specs.Tables.{StoredCell as Cell};
 ghost use Rattle.run_stores.specs.Walks.{CellsFoldTo, cell_numbers};
-ghost use Rattle.store_schema.specs.Lines.{call_row, cell_row, held_stack};
-ghost use Rattle.store_schema.specs.Tables.{number, cell_columns, arc_columns, stack_columns};
+ghost use Rattle.prof_store.specs.Lines.{call_row, cell_row, held_stack};
+ghost use Rattle.prof_store.specs.Tables.{number, cell_columns, arc_columns, stack_columns};
 
 use crate::kept::Gathered;
 use crate::run_rows::{Added, LineSink};
@@ -15,7 +15,7 @@ use plain_tables::StoreError;
 use run_stores::{CallSink, CellSink, StackRowSink};
 use sqlite_record::fields::Fields;
 use std::alloc::Global;
-use store_schema::{HeldStack, OutOfForm, StoredCall, StoredCell};
+use prof_store::{HeldStack, OutOfForm, StoredCall, StoredCell};
 
 /// The cell of a run that a record says behind the run.
 fn read_cell(run: u32, mut fields: Fields<'_>) -> Result<StoredCell, OutOfForm>
@@ -89,7 +89,7 @@ pub(crate) struct GatheredLines<T> {
 impl<T: CellSink + Drop> LineSink for GatheredLines<T> {
     ghost use Rattle.std.specs.Prelude.{ℕ};
     ghost use Rattle.plain_tables.specs.Tables.{StoredCell as Cell};
-    ghost use Rattle.store_schema.specs.Tables.{cell_columns};
+    ghost use Rattle.prof_store.specs.Tables.{cell_columns};
     ghost use Rattle.run_lists.specs.HeldCells.{HasTakenCellLines};
     ghost use Rattle.page_runs.specs.Kept.{HasGathered};
 
@@ -120,7 +120,7 @@ impl<T: CellSink + Drop> LineSink for GatheredLines<T> {
 impl<T: CallSink + Drop> LineSink for CallLines<T> {
     ghost use Rattle.std.specs.Prelude.{ℕ};
     ghost use Rattle.plain_tables.specs.Tables.{StoredCall as Call};
-    ghost use Rattle.store_schema.specs.Tables.{arc_columns};
+    ghost use Rattle.prof_store.specs.Tables.{arc_columns};
     ghost use Rattle.run_lists.specs.HeldCalls.{HasTakenCallLines};
 
     ghost Line = { Call };
@@ -155,7 +155,7 @@ pub(crate) struct CopiedStacks<T> {
 
 impl<T: StackRowSink + Drop> LineSink for CopiedStacks<T> {
     ghost use Rattle.plain_tables.specs.Tables.{StoredStack as Stack};
-    ghost use Rattle.store_schema.specs.Tables.{stack_columns};
+    ghost use Rattle.prof_store.specs.Tables.{stack_columns};
     ghost use Rattle.run_lists.specs.HeldStacks.{HasTakenStackLines};
 
     ghost Line = { Stack };

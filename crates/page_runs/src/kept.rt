@@ -1,13 +1,13 @@
 // The cells of small runs, kept in memory as they are handed on.
 ghost use Rattle.std.specs.Prelude.{◌≡◌, ◌≤◌, ◌+◌, map, suc, sum_by, vec_len};
 ghost use Rattle.std.specs.BTreeMap.{values};
-ghost use Rattle.store_schema.specs.Lines.{cell_row};
+ghost use Rattle.prof_store.specs.Lines.{cell_row};
 ghost use Rattle.run_stores.specs.Walks.{cell_numbers};
 
 use cost_rows::CellRow;
 use std::alloc::Global;
 use std::collections::BTreeMap;
-use store_schema::StoredCell;
+use prof_store::StoredCell;
 
 /// How many cells a small run has at most, 256 KB.
 const SMALL_RUN: usize = 4096;

@@ -31,7 +31,7 @@ pub(crate) trait LineSink {
     ghost use Rattle.std.specs.Prelude.{◌≡◌, ◌++◌, ◌∷◌, [], ℕ, List, IfOk};
     ghost use Rattle.sqlite_record.specs.Fields.{fields_left};
     ghost use Rattle.sqlite_value.specs.Order.{Row};
-    ghost use Rattle.store_schema.specs.Tables.{number};
+    ghost use Rattle.prof_store.specs.Tables.{number};
 
     /// A line of the table.
     ghost Line: { Type 0 };

@@ -228,7 +228,7 @@ impl<D: Disk> PageRuns<D> {
 
 impl<D: Disk> StoreState for PageRuns<D> {
     ghost use Rattle.sqlite_pool.specs.Pool as pools;
-    ghost use Rattle.store_schema.proofs.Sound.{sound_of};
+    ghost use Rattle.prof_store.proofs.Sound.{sound_of};
     ghost use Rattle.page_lists.proofs.NamesTold.{apart_told};
     ghost use Rattle.page_runs.specs.States.{HoldsTables, IsFaithful, IsSettled, Kept as KeptPages, Left, ReadsAs, Represents, faults, kept, may_leave};
 

@@ -26,17 +26,17 @@ use Rattle.sql_tables.proofs.Queries.{sorted_scan}
 use Rattle.sql_tables.proofs.Returning.{HasNoReturning}
 use Rattle.plain_tables.specs.declared.errors.StoreError.{StoreError}
 use Rattle.plain_tables.specs.declared.errors.StoreError.TheVariants as errors
-use Rattle.store_schema.specs.declared.errors.OpenError.{OpenError}
-use Rattle.store_schema.specs.declared.errors.OpenError.TheVariants as ends
-use Rattle.store_schema.specs.Errors.{error_for, opening}
-use Rattle.store_schema.specs.First.{HoldsFirst, first_meta_columns}
-use Rattle.store_schema.specs.Schema.{schema_one, schema_two}
+use Rattle.prof_store.specs.declared.errors.OpenError.{OpenError}
+use Rattle.prof_store.specs.declared.errors.OpenError.TheVariants as ends
+use Rattle.prof_store.specs.Errors.{error_for, opening}
+use Rattle.prof_store.specs.First.{HoldsFirst, first_meta_columns}
+use Rattle.prof_store.specs.Schema.{schema_one, schema_two}
 use Rattle.plain_tables.specs.Tables.{Tables}
-use Rattle.store_schema.specs.Tables.{Holds, meta_columns}
-use Rattle.store_schema.specs.Texts.{schema_sql}
-use Rattle.store_schema.proofs.Finds.{first_schema_found, row_there, schema_found}
-use Rattle.store_schema.proofs.Means.{first_schema_means, first_schema_plain, first_schema_unlisted, schema_terms, schema_shown, schema_order, schema_means, schema_plain, schema_unlisted}
-use Rattle.store_schema.specs.Migrated.{Migrates}
+use Rattle.prof_store.specs.Tables.{Holds, meta_columns}
+use Rattle.prof_store.specs.Texts.{schema_sql}
+use Rattle.prof_store.proofs.Finds.{first_schema_found, row_there, schema_found}
+use Rattle.prof_store.proofs.Means.{first_schema_means, first_schema_plain, first_schema_unlisted, schema_terms, schema_shown, schema_order, schema_means, schema_plain, schema_unlisted}
+use Rattle.prof_store.specs.Migrated.{Migrates}
 use Rattle.prof_store.specs.Schemas.{IsAskedFor, IsFirstStore, IsOpenedBy, IsStore, Opened, OpensAs, SaysSecond, SaysVersion, failed_opening}
 use Rattle.prof_store.specs.declared.open.Version.{Version}
 use Rattle.prof_store.specs.declared.open.Version.TheVariants as versions

@@ -9,9 +9,9 @@ use Rattle.sqlite_trees.specs.Tree.{Trees}
 use Rattle.sqlite_schema.specs.declared.schema.Table.{Table}
 use Rattle.sql_tables.proofs.Orders.{seen_columns}
 use Rattle.sql_tables.proofs.Rows.{Numbered}
-use Rattle.store_schema.specs.Schema.{meta_at, run_at, run_event_at, derived_at, coef_at, name_at, thread_cell_at, arc_at, stack_at, grp_at, member_at}
+use Rattle.prof_store.specs.Schema.{meta_at, run_at, run_event_at, derived_at, coef_at, name_at, thread_cell_at, arc_at, stack_at, grp_at, member_at}
 use Rattle.plain_tables.specs.Tables.{Tables, EventRow, GroupRow}
-use Rattle.store_schema.specs.Tables.{Holds, run_columns, event_columns, derived_columns, coef_columns, name_columns, cell_columns, arc_columns, stack_columns, group_columns, member_columns, number, number_or_null, text_or_null}
+use Rattle.prof_store.specs.Tables.{Holds, run_columns, event_columns, derived_columns, coef_columns, name_columns, cell_columns, arc_columns, stack_columns, group_columns, member_columns, number, number_or_null, text_or_null}
 use Rattle.prof_store.specs.Readings.{as_read, row_read, IsSaidBy, RowsSay}
 use Rattle.prof_store.proofs.Readings.{values_read}
 

@@ -1,3 +1,16 @@
 pub mod Readings
 pub mod Schemas
 pub mod Shown
+pub mod Created
+pub mod Errors
+pub mod First
+pub mod Lines
+pub mod Making
+pub mod Migrated
+pub mod Names
+pub mod Schema
+pub mod Steps
+pub mod Tables
+pub mod Texts
+pub mod WalkTexts
+pub mod Within

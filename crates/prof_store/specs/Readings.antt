@@ -11,9 +11,9 @@ use Rattle.sqlite_catalog.specs.Listing.{IsSound}
 use Rattle.sqlite_schema.specs.declared.schema.Column.{Column}
 use Rattle.sqlite_schema.specs.declared.schema.Table.{Table}
 use Rattle.sql_tables.specs.Contents.{rows_that_count}
-use Rattle.store_schema.specs.Schema.{schema_two}
+use Rattle.prof_store.specs.Schema.{schema_two}
 use Rattle.plain_tables.specs.Tables.{Tables}
-use Rattle.store_schema.specs.Tables.{contents_of, number}
+use Rattle.prof_store.specs.Tables.{contents_of, number}
 
 -- a negative number, which stands in no line, is read as another number
 abbrev pub as_read : (ℕ → ℕ) → Value → Value

@@ -12,15 +12,15 @@ use Rattle.sqlite.specs.Held.{Held, state}
 use Rattle.sqlite.specs.State.{State, QueriesRow}
 use Rattle.sql_tables.specs.Calls.{Asked, IsAsBefore, IsSettled, KeepsIfShut, Stays}
 use Rattle.sql_tables.specs.States.{LeavesOnly, Rests}
-use Rattle.store_schema.specs.declared.errors.OpenError.{OpenError}
-use Rattle.store_schema.specs.declared.errors.OpenError.TheVariants as ends
-use Rattle.store_schema.specs.Errors.{error_for, opening}
-use Rattle.store_schema.specs.First.{HoldsFirst}
-use Rattle.store_schema.specs.Schema.{schema_one, schema_two}
+use Rattle.prof_store.specs.declared.errors.OpenError.{OpenError}
+use Rattle.prof_store.specs.declared.errors.OpenError.TheVariants as ends
+use Rattle.prof_store.specs.Errors.{error_for, opening}
+use Rattle.prof_store.specs.First.{HoldsFirst}
+use Rattle.prof_store.specs.Schema.{schema_one, schema_two}
 use Rattle.plain_tables.specs.Tables.{Tables}
-use Rattle.store_schema.specs.Tables.{Holds}
-use Rattle.store_schema.specs.Texts.{schema_sql}
-use Rattle.store_schema.specs.Migrated.{Migrates}
+use Rattle.prof_store.specs.Tables.{Holds}
+use Rattle.prof_store.specs.Texts.{schema_sql}
+use Rattle.prof_store.specs.Migrated.{Migrates}
 use Rattle.prof_store.specs.declared.open.Version.{Version}
 use Rattle.prof_store.specs.declared.open.Version.TheVariants as versions
 

@@ -4,9 +4,9 @@ use Rattle.sqlite_trees.specs.Tree.{Trees}
 use Rattle.sqlite.specs.Held.{state}
 use Rattle.sqlite.specs.State.{HasCleanDisk, State}
 use Rattle.sql_tables.specs.States.{Rests, LeavesJust as Just}
-use Rattle.store_schema.specs.Schema.{schema_two}
+use Rattle.prof_store.specs.Schema.{schema_two}
 use Rattle.plain_tables.specs.Tables.{Tables}
-use Rattle.store_schema.specs.Tables.{Holds}
+use Rattle.prof_store.specs.Tables.{Holds}
 use Rattle.prof_store.specs.declared.store.Store.{Store}
 
 module _ {S : Type 0} (g : Ghosts S) where

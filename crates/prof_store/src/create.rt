@@ -2,14 +2,15 @@
 ghost use Rattle.std.specs.Prelude.{◌≡◌, ◌↔◌, true, false, IfOk, IfErr};
 ghost use Rattle.sqlite.specs.Held.{state};
 ghost use Rattle.sqlite.specs.State.{HasCleanDisk};
-ghost use Rattle.store_schema.specs.Schema.{empty_schema};
-ghost use Rattle.store_schema.specs.Created.{Creates};
+ghost use Rattle.prof_store.specs.Schema.{empty_schema};
+ghost use Rattle.prof_store.specs.Created.{Creates};
 ghost use Rattle.prof_store.specs.Shown.{shown, IsFaithful};
-ghost use Rattle.store_schema.specs.declared.errors.OpenError.TheVariants as ends;
+ghost use Rattle.prof_store.specs.declared.errors.OpenError.TheVariants as ends;
 
 use crate::store::Store;
 use sqlite::{Alter, Connection};
-use store_schema::{OpenError, create_tables};
+use crate::errors::OpenError;
+use crate::making::create_tables;
 
 impl<S: Alter> Store<S> {
     /// Makes a new store, in one transaction, in a database that has no table. `WrongSchema` says that it

@@ -5,16 +5,17 @@ ghost use Rattle.sqlite.specs.Held.{state};
 ghost use Rattle.sqlite.specs.State.{HasCleanDisk, Survives, QueriesRow, CommitsShowing};
 ghost use Rattle.sqlite_value.specs.declared.value.Value.TheVariants.{Int};
 ghost use Rattle.sqlite_value.specs.Order.{column};
-ghost use Rattle.store_schema.specs.Texts.{schema_sql};
+ghost use Rattle.prof_store.specs.Texts.{schema_sql};
 ghost use Rattle.prof_store.specs.Schemas.{IsAskedFor, IsFirstStore, IsOpenedBy, IsStore, Opened, OpensAs, SaysVersion};
 ghost use Rattle.prof_store.specs.Shown.{shown, IsFaithful};
 ghost use Rattle.prof_store.specs.declared.open.Version.TheVariants as versions;
-ghost use Rattle.store_schema.specs.declared.errors.OpenError.TheVariants as ends;
+ghost use Rattle.prof_store.specs.declared.errors.OpenError.TheVariants as ends;
 
 use crate::store::Store;
 use sqlite::types::ValueRef;
 use sqlite::{Alter, Connection, Error, Row};
-use store_schema::{OpenError, error_of, migrate};
+use crate::errors::{OpenError, error_of};
+use crate::moving::migrate;
 
 /// The versions of tables that this program opens.
 enum Version {

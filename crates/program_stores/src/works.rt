@@ -13,7 +13,7 @@ use crate::session::work_over;
 use std::fs::File;
 use std::io::Read;
 use std::rt::HostRuntime;
-use store_schema::OpenError;
+use prof_store::OpenError;
 
 /// So often a job is tried beside others, even where that takes longer than patience lasts.
 const LEAST_TRIES: u32 = 3;

@@ -6,9 +6,9 @@ use Rattle.sqlite_catalog.specs.Listing.{IsSound}
 use Rattle.sqlite_trees.specs.Tree.{Trees}
 use Rattle.sqlite_rules.specs.Lists.{Has}
 use Rattle.plain_tables.specs.Tables.{Tables, NameRow}
-use Rattle.store_schema.specs.Schema.{schema_two}
-use Rattle.store_schema.specs.Names.{SayNames}
-use Rattle.store_schema.proofs.Names.{same_number}
+use Rattle.prof_store.specs.Schema.{schema_two}
+use Rattle.prof_store.specs.Names.{SayNames}
+use Rattle.prof_store.proofs.Names.{same_number}
 use Rattle.run_stores.specs.Book.{name_of, IsHeld}
 use Rattle.run_stores.specs.Names.{AreApart}
 

@@ -8,8 +8,8 @@ use Rattle.cost_rows.specs.declared.rows.ArcRow.{ArcRow}
 use Rattle.plain_tables.specs.Tables.{StoredCall as Call}
 use Rattle.run_stores.specs.Walks.{CallsFoldTo, part_numbers, part_of, parts_of}
 use Rattle.run_lists.specs.HeldCalls.{HasTakenCalls, lines_from, part_line, row_of}
-use Rattle.store_schema.specs.declared.table_rows.StoredCall.{StoredCall}
-use Rattle.store_schema.specs.Lines.{call_row}
+use Rattle.prof_store.specs.declared.table_rows.StoredCall.{StoredCall}
+use Rattle.prof_store.specs.Lines.{call_row}
 use Rattle.plain_tables.proofs.Lists.{all-append}
 
 -- ---- costs and the lines of their parts

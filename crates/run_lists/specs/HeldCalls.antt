@@ -4,8 +4,8 @@ use Rattle.cost_rows.specs.Above.{rows_above}
 use Rattle.cost_rows.specs.declared.rows.ArcRow.{ArcRow}
 use Rattle.plain_tables.specs.Tables.{StoredCall as Call}
 use Rattle.run_stores.specs.Walks.{CallsFoldTo}
-use Rattle.store_schema.specs.Lines.{call_row}
-use Rattle.store_schema.specs.declared.table_rows.StoredCall.{StoredCall}
+use Rattle.prof_store.specs.Lines.{call_row}
+use Rattle.prof_store.specs.declared.table_rows.StoredCall.{StoredCall}
 use Rattle.run_lists.specs.declared.handed_calls.CallLines.{CallLines}
 
 -- the row of the calls whose count this line has

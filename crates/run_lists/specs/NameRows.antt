@@ -2,7 +2,7 @@
 use Rattle.std.specs.Prelude.{◌≡◌, ◌<◌, ℕ, List, get_or, length}
 use Rattle.sqlite_value.specs.Order.{Row}
 use Rattle.plain_tables.specs.Tables.{NameRow}
-use Rattle.store_schema.specs.Tables.{number}
+use Rattle.prof_store.specs.Tables.{number}
 use Rattle.run_lists.specs.declared.held_names.HeldName.{HeldName}
 
 -- the line that a name and its number are

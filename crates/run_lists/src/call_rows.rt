@@ -1,11 +1,11 @@
 // The rows of a run's calls, made of their lines.
 ghost use Rattle.std.specs.Prelude.{◌≡◌, ◌≤◌, ◌++◌, ◌∷◌, [], IfOk, OnOk, IsTrue, length};
 ghost use Rattle.run_lists.specs.HeldCalls.{lines_from, part_line, row_of};
-ghost use Rattle.store_schema.specs.Lines.{call_row};
+ghost use Rattle.prof_store.specs.Lines.{call_row};
 
 use cg_text::ListVec;
 use cost_rows::ArcRow;
-use store_schema::{StoreError, StoredCall};
+use prof_store::{StoreError, StoredCall};
 
 /// Adds zeros, up to a length.
 fn fill(costs: &mut ListVec<u128>, len: usize) -> Result<(), StoreError>

@@ -1,7 +1,7 @@
 // The calls of a run, handed on row by row, with the numbers of their names.
 ghost use Rattle.std.specs.Prelude.{◌≡◌, ◌≢◌, ◌++◌, ◌∷◌, [], ℕ, List, None, OnOk, IfOk, IfErr};
 ghost use Rattle.plain_tables.specs.Tables.{StoredCall as Call};
-ghost use Rattle.store_schema.specs.Lines.{call_row};
+ghost use Rattle.prof_store.specs.Lines.{call_row};
 ghost use Rattle.run_stores.specs.Walks.{CallsFoldTo};
 ghost use Rattle.run_lists.specs.HeldCalls.{HasTakenCallLines, HasTakenCalls};
 
@@ -10,7 +10,7 @@ use cg_text::ListVec;
 use run_stores::CallSink;
 use std::alloc::Global;
 use std::mem;
-use store_schema::{OutOfForm, StoreError, StoredCall};
+use prof_store::{OutOfForm, StoreError, StoredCall};
 
 /// Refuses a row of calls whose first line is not their count, part 0.
 fn check_first(line: &StoredCall) -> Result<(), OutOfForm>

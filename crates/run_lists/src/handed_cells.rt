@@ -1,13 +1,13 @@
 // The cells of a run, handed on one at a time, with the numbers of their names.
 ghost use Rattle.std.specs.Prelude.{◌≡◌, ◌<◌, ◌++◌, ◌∷◌, [], ℕ, List, IfOk, OnOk};
 ghost use Rattle.plain_tables.specs.Tables.{StoredCell as TableCell};
-ghost use Rattle.store_schema.specs.Lines.{cell_row};
+ghost use Rattle.prof_store.specs.Lines.{cell_row};
 ghost use Rattle.run_stores.specs.Walks.{CellsFoldTo, cell_numbers};
 ghost use Rattle.run_lists.specs.HeldCells.{HasTakenCellLines};
 
 use cost_rows::CellRow;
 use run_stores::CellSink;
-use store_schema::{OutOfForm, StoreError, StoredCell};
+use prof_store::{OutOfForm, StoreError, StoredCell};
 
 /// The cell of a line, of one of so many events.
 fn cell_row(line: &StoredCell, events: usize) -> Result<CellRow<u32>, OutOfForm>

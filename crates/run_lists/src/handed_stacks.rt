@@ -3,12 +3,12 @@ ghost use Rattle.std.specs.Prelude.{◌≡◌, ◌++◌, ◌∷◌, [], List, On
 ghost use Rattle.cost_rows.specs.Plain.{plain_stack};
 ghost use Rattle.run_stores.specs.Book.{stack_held};
 ghost use Rattle.plain_tables.specs.Tables.{StoredStack};
-ghost use Rattle.store_schema.specs.Lines.{held_stack};
+ghost use Rattle.prof_store.specs.Lines.{held_stack};
 ghost use Rattle.run_lists.specs.HeldStacks.{HasTakenStackLines};
 
 use cost_rows::StackRow;
 use run_stores::StackRowSink;
-use store_schema::{HeldStack, StoreError};
+use prof_store::{HeldStack, StoreError};
 
 /// A stack that is held, as it is lent.
 fn lent_stack(line: &HeldStack) -> StackRow<&[u8]>

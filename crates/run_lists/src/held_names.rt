@@ -8,7 +8,7 @@ ghost use Rattle.run_lists.specs.NameRows.{name_row, IsNameAt};
 
 use run_stores::NameTable;
 use std::marker::Model;
-use store_schema::OutOfForm;
+use prof_store::OutOfForm;
 
 /// A name and its number.
 #[derive(Drop)]

@@ -28,8 +28,8 @@ use Rattle.sqlite.specs.declared.file.Leftover.{Leftover}
 use Rattle.sqlite.specs.declared.file.Leftover.TheVariants as left
 use Rattle.plain_tables.specs.Tables.{Tables}
 use Rattle.sql_tables.specs.States.{Rests}
-use Rattle.store_schema.specs.Schema.{schema_two}
-use Rattle.store_schema.specs.Tables.{Holds}
+use Rattle.prof_store.specs.Schema.{schema_two}
+use Rattle.prof_store.specs.Tables.{Holds}
 use Rattle.page_files.specs.Files.{files_of, page_size}
 use Rattle.page_runs.specs.States.{faults, survives, HoldsTables, Represents}
 use Rattle.page_runs.specs.declared.store.PageRuns.{PageRuns}

@@ -21,10 +21,10 @@ use Rattle.sqlite_rules.proofs.ListLemmas.{some_has, some_from}
 use Rattle.sqlite_tied.proofs.RuleLemmas.{and_true}
 use Rattle.sqlite_tied.specs.Compute.{everything}
 use Rattle.sql_tables.proofs.Rows.{numbers_equal}
-use Rattle.store_schema.specs.Schema.{schema_two, to}
-use Rattle.store_schema.specs.Tables.{Holds, group_columns, member_columns, number, number_or_null, run_columns}
-use Rattle.store_schema.proofs.Finds.{run_row}
-use Rattle.store_schema.proofs.Sound.{sound_of}
+use Rattle.prof_store.specs.Schema.{schema_two, to}
+use Rattle.prof_store.specs.Tables.{Holds, group_columns, member_columns, number, number_or_null, run_columns}
+use Rattle.prof_store.proofs.Finds.{run_row}
+use Rattle.prof_store.proofs.Sound.{sound_of}
 use Rattle.plain_tables.specs.Changes.{has_run}
 use Rattle.plain_tables.specs.Lists.{IsAscending}
 use Rattle.plain_tables.specs.Sound.{AreOfRuns}

@@ -17,8 +17,8 @@ use Rattle.sqlite_wal.specs.Files.{outcomes}
 use Rattle.sqlite_wal.specs.Recovery.{Image}
 use Rattle.plain_tables.specs.Tables.{Tables}
 use Rattle.sql_tables.specs.States.{Rests}
-use Rattle.store_schema.specs.Schema.{schema_two}
-use Rattle.store_schema.specs.Tables.{Holds}
+use Rattle.prof_store.specs.Schema.{schema_two}
+use Rattle.prof_store.specs.Tables.{Holds}
 use Rattle.store_paths.specs.Shown.{HoldsRows}
 use Rattle.page_runs.specs.States.{faults, Represents}
 use Rattle.page_runs.specs.declared.store.PageRuns.{PageRuns}

@@ -4,9 +4,9 @@ use Rattle.sqlite.specs.State.{State}
 use Rattle.sqlite_trees.specs.Tree.{Trees}
 use Rattle.sql_tables.specs.States.{Rests}
 use Rattle.callgrind_reader.specs.Grammars.{First}
-use Rattle.store_schema.specs.First.{HoldsFirst}
-use Rattle.store_schema.specs.Schema.{schema_one, schema_two}
-use Rattle.store_schema.specs.Tables.{Holds}
+use Rattle.prof_store.specs.First.{HoldsFirst}
+use Rattle.prof_store.specs.Schema.{schema_one, schema_two}
+use Rattle.prof_store.specs.Tables.{Holds}
 use Rattle.plain_tables.specs.Tables.{Tables}
 use Rattle.histories.specs.History.{History}
 use Rattle.histories.specs.Marks.{AreBy}

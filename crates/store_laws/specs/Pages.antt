@@ -6,8 +6,8 @@ use Rattle.sqlite_store.specs.declared.store.FileStore.{FileStore}
 use Rattle.plain_tables.specs.Tables.{Tables}
 use Rattle.run_stores.specs.Order.{AreInOrder}
 use Rattle.sql_tables.specs.States.{Rests}
-use Rattle.store_schema.specs.Schema.{schema_two}
-use Rattle.store_schema.specs.Tables.{Holds}
+use Rattle.prof_store.specs.Schema.{schema_two}
+use Rattle.prof_store.specs.Tables.{Holds}
 use Rattle.page_runs.specs.States.{IsFaithful, Represents}
 use Rattle.page_runs.specs.declared.store.PageRuns.{PageRuns}
 

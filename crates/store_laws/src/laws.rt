@@ -6,7 +6,7 @@ ghost use Rattle.sqlite.specs.Held.{state};
 ghost use Rattle.sqlite.specs.declared.connection.Connection.{Connection};
 ghost use Rattle.sql_tables.specs.States.{LeavesJust as Leaves};
 ghost use Rattle.sqlite_trees.specs.Tree.{Trees};
-ghost use Rattle.store_schema.specs.Tables.{Holds};
+ghost use Rattle.prof_store.specs.Tables.{Holds};
 ghost use Rattle.prof_store.specs.Schemas.{Opened};
 ghost use Rattle.plain_tables.specs.Lists.{Has};
 ghost use Rattle.plain_tables.specs.RunRows.{calls_in, cells_in, stacks_in};

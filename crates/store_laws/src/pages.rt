@@ -8,7 +8,7 @@ use sqlite::{Connection, FileStore};
 use sqlite_disk::Disk;
 use sqlite_pager::Options;
 use std::alloc::Global;
-use store_schema::error_of;
+use prof_store::error_of;
 
 /// Closes a database, and opens the store in it by its pages. What was not committed is rolled back.
 ///

@@ -17,7 +17,7 @@ use Rattle.sqlite.specs.Files.{HoldsDatabase}
 use Rattle.sqlite.specs.Opening.{HoldsAt}
 use Rattle.plain_tables.specs.Tables.{Tables}
 use Rattle.run_stores.specs.Order.{AreInOrder}
-use Rattle.store_schema.specs.Tables.{Holds}
+use Rattle.prof_store.specs.Tables.{Holds}
 use Rattle.page_lists.specs.Sizes.{IsSizeOf}
 use Rattle.page_runs.specs.States.{HoldsTables}
 use Rattle.store_paths.specs.Shown.{HoldsRows}

@@ -2,7 +2,7 @@
 ghost use Rattle.std.specs.Prelude.{◌≡◌, Some, IfOk, IsTrue};
 ghost use Rattle.sqlite_wal.specs.Recovery.{Image};
 ghost use Rattle.store_paths.specs.declared.errors.Cause.TheVariants as causes;
-ghost use Rattle.store_schema.specs.declared.errors.OpenError.TheVariants as ends;
+ghost use Rattle.prof_store.specs.declared.errors.OpenError.TheVariants as ends;
 ghost use Rattle.store_paths.specs.Shown.{HoldsInOrder, ShowImage};
 ghost use Rattle.store_paths.specs.Opened.{RepresentsHeld};
 ghost use Rattle.page_runs.specs.States.{state_of};

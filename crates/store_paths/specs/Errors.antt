@@ -1,7 +1,7 @@
 -- What is printed of a store that is not opened.
 use Rattle.std.specs.Prelude.{ℕ, List, codes, Some, None}
-use Rattle.store_schema.specs.declared.errors.OpenError.{OpenError}
-use Rattle.store_schema.specs.declared.errors.OpenError.TheVariants as ends
+use Rattle.prof_store.specs.declared.errors.OpenError.{OpenError}
+use Rattle.prof_store.specs.declared.errors.OpenError.TheVariants as ends
 use Rattle.store_paths.specs.declared.errors.Cause.{Cause}
 use Rattle.store_paths.specs.declared.errors.Cause.TheVariants as causes
 use Rattle.store_paths.specs.declared.errors.NotOpened.{NotOpened}

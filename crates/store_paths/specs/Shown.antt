@@ -9,7 +9,7 @@ use Rattle.sqlite_trees.specs.Tree.{Trees}
 use Rattle.sqlite_wal.specs.Recovery.{Image}
 use Rattle.plain_tables.specs.Tables.{Tables}
 use Rattle.run_stores.specs.Order.{AreInOrder}
-use Rattle.store_schema.specs.Tables.{Holds}
+use Rattle.prof_store.specs.Tables.{Holds}
 
 -- an image of files is a database whose tables hold these rows
 abbrev pub HoldsRows : Image → Tables → Type 0

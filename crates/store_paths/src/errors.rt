@@ -3,7 +3,7 @@ ghost use Rattle.std.specs.Prelude.{◌≡◌};
 ghost use Rattle.store_paths.specs.Errors.{cause_text, store_text};
 
 use plain_tables::StoreError;
-use store_schema::OpenError;
+use prof_store::OpenError;
 
 /// What was found where a store is not opened.
 #[derive(Clone, Copy, Debug, PartialEq, Eq)]
@@ -51,7 +51,7 @@ impl From<OpenError> for NotOpened {
 
 impl From<StoreError> for NotOpened {
     ghost use Rattle.std.specs.Prelude.{◌≡◌};
-    ghost use Rattle.store_schema.specs.Errors.{opening};
+    ghost use Rattle.prof_store.specs.Errors.{opening};
     ghost use Rattle.store_paths.specs.Errors.{not_opened};
 
     ghost from_gives = { λ error refused. refused ≡ not_opened (opening error) };

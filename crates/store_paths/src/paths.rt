@@ -6,7 +6,7 @@ use crate::errors::NotOpened;
 use sqlite_pager::Options;
 use std::hash::{BuildHasher, RandomState};
 use std::rt::HostRuntime;
-use store_schema::OpenError;
+use prof_store::OpenError;
 
 /// Whether a path is one that SQLite takes for something else than a file.
 pub fn is_no_file(path: &str) -> bool

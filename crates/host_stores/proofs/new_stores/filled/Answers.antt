@@ -9,8 +9,8 @@ use Rattle.sqlite_disk.specs.declared.Disk.{Ghosts}
 use Rattle.sqlite_disk.specs.declared.Files.{Files}
 use Rattle.sqlite_store.specs.declared.store.FileStore.{FileStore}
 use Rattle.plain_tables.specs.Tables.{new_tables}
-use Rattle.store_schema.specs.Created.{Creates}
-use Rattle.store_schema.specs.Tables.{Holds}
+use Rattle.prof_store.specs.Created.{Creates}
+use Rattle.prof_store.specs.Tables.{Holds}
 use Rattle.host_stores.specs.NewStores.{IsNewStore}
 use Rattle.host_stores.specs.Stores.{IsReadyIn}
 use Rattle.host_stores.proofs.new_stores.filled.Goals as goal

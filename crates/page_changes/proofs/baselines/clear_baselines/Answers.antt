@@ -8,7 +8,7 @@ use Rattle.plain_tables.specs.declared.errors.StoreError.TheVariants.{Memory, St
 use Rattle.page_places.specs.Failures.{FailsToStore}
 use Rattle.page_places.proofs.Failing.{memory_fails, row_fails, store_fails_later}
 use Rattle.page_files.proofs.Steps.{writes_after}
-use Rattle.store_schema.specs.Schema.{schema_two, grp_at}
+use Rattle.prof_store.specs.Schema.{schema_two, grp_at}
 use Rattle.page_changes.proofs.Clearing.{none_sought, sought_picked}
 use Rattle.page_changes.proofs.RemovalPlaces.{key_at, table_at}
 use Rattle.page_changes.proofs.baselines.clear_baselines.Goals as goal

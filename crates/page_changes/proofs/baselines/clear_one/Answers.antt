@@ -14,8 +14,8 @@ use Rattle.plain_tables.specs.Tables.{GroupRow}
 use Rattle.page_places.specs.Changes.{HasRows, KeepsEntries}
 use Rattle.page_places.specs.Places.{indexes_of}
 use Rattle.page_places.proofs.Outcomes.{table_shows}
-use Rattle.store_schema.specs.Schema.{schema_two, grp_at}
-use Rattle.store_schema.specs.Tables.{number}
+use Rattle.prof_store.specs.Schema.{schema_two, grp_at}
+use Rattle.prof_store.specs.Tables.{number}
 use Rattle.page_changes.proofs.baselines.clear_one.Goals as goal
 
 pub returns-in-Ok-clause-keeps : goal.returns-in-Ok-clause-keeps

@@ -1,7 +1,7 @@
 use Rattle.std.proofs.Common.{sym, subst, ◌∙◌, if◌then◌else◌, refl, inr}
 use Rattle.std.proofs.lemmas.Bool.{both_ways}
 use Rattle.plain_tables.specs.Changes.{with_member}
-use Rattle.store_schema.specs.Tables.{Holds}
+use Rattle.prof_store.specs.Tables.{Holds}
 use Rattle.page_files.proofs.Steps.{begins}
 use Rattle.page_changes.proofs.Editing.{listed_member}
 use Rattle.page_changes.specs.Causes.{CanTakeIn}

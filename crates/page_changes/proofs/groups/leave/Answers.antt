@@ -1,5 +1,5 @@
 use Rattle.std.proofs.Common.{sym, subst, ◌∙◌, refl}
-use Rattle.store_schema.specs.Tables.{Holds}
+use Rattle.prof_store.specs.Tables.{Holds}
 use Rattle.page_files.proofs.Steps.{begins}
 use Rattle.page_changes.specs.Causes.{CanTakeOut}
 use Rattle.page_changes.proofs.Editing.{listed_member, not_member}

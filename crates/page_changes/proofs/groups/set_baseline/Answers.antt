@@ -1,6 +1,6 @@
 use Rattle.std.proofs.Common.{refl, sym, subst, inr, ◌∙◌}
 use Rattle.std.proofs.lemmas.Bool.{both_ways}
-use Rattle.store_schema.specs.Tables.{Holds}
+use Rattle.prof_store.specs.Tables.{Holds}
 use Rattle.page_files.proofs.Steps.{begins}
 use Rattle.page_changes.proofs.Editing.{not_group}
 use Rattle.page_changes.specs.Causes.{CanRebase}

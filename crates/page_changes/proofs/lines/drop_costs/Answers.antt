@@ -1,6 +1,6 @@
 use Rattle.std.proofs.Common.{[], ◌∷◌, refl}
 use Rattle.sqlite_pool.specs.StoredLaws.{Keeps-trans}
-use Rattle.store_schema.specs.Schema.{schema_two, thread_cell_at, arc_at, stack_at}
+use Rattle.prof_store.specs.Schema.{schema_two, thread_cell_at, arc_at, stack_at}
 use Rattle.page_changes.proofs.RemovalPlaces.{after, calls_out, cells_out, stacks_out, key_at, table_at}
 use Rattle.page_places.proofs.Outcomes.{match_result}
 use Rattle.std.proofs.lemmas.Result.{IfOk-from_err, err_from_is_err_and}

@@ -1,7 +1,7 @@
 use Rattle.std.proofs.Common.{not, refl, sym, ap, subst}
 use Rattle.sqlite_trees.specs.declared.store.Shape.TheVariants as shape
 use Rattle.sqlite_trees.specs.View.{IsShaped}
-use Rattle.store_schema.specs.Schema.{schema_two, member_at}
+use Rattle.prof_store.specs.Schema.{schema_two, member_at}
 use Rattle.page_places.proofs.Members.{members_of_run_taken_out}
 use Rattle.page_changes.specs.Removed.{is_second}
 use Rattle.page_changes.proofs.RemovalPlaces.{key_at, same_number, table_at}

@@ -4,7 +4,7 @@ use Rattle.sqlite_rules.specs.Edit.{next_rowid}
 use Rattle.sqlite_trees.specs.declared.store.Shape.TheVariants as shape
 use Rattle.sqlite_trees.specs.View.{IsShaped}
 use Rattle.sqlite_value.specs.declared.value.Value.TheVariants.{Int}
-use Rattle.store_schema.specs.Schema.{schema_two, member_at}
+use Rattle.prof_store.specs.Schema.{schema_two, member_at}
 use Rattle.page_places.proofs.Members.{member_behind}
 use Rattle.page_changes.proofs.Places.{members_at}
 use Rattle.page_places.specs.Failures.{FailsToStore}

@@ -1,7 +1,7 @@
 use Rattle.std.proofs.Common.{refl, sym, subst}
 use Rattle.sqlite_trees.specs.declared.store.Shape.TheVariants as shape
 use Rattle.sqlite_trees.specs.View.{IsShaped}
-use Rattle.store_schema.specs.Schema.{schema_two, grp_at}
+use Rattle.prof_store.specs.Schema.{schema_two, grp_at}
 use Rattle.page_places.proofs.OneLine.{group_removed}
 use Rattle.page_changes.proofs.Places.{groups_at}
 use Rattle.page_places.proofs.Outcomes.{match_result}

@@ -2,7 +2,7 @@ use Rattle.std.proofs.Common.{refl, sym, subst}
 use Rattle.sqlite_rules.specs.Lists.{Has}
 use Rattle.sqlite_trees.specs.declared.store.Shape.TheVariants as shape
 use Rattle.sqlite_trees.specs.View.{IsShaped}
-use Rattle.store_schema.specs.Schema.{schema_two, member_at}
+use Rattle.prof_store.specs.Schema.{schema_two, member_at}
 use Rattle.page_places.proofs.OneLine.{member_removed}
 use Rattle.page_changes.specs.Named.{named}
 use Rattle.page_changes.proofs.Places.{members_at}

@@ -10,8 +10,8 @@ use Rattle.page_files.proofs.Steps.{writes_after}
 use Rattle.page_places.specs.Changes.{HasRows, KeepsEntries}
 use Rattle.page_places.specs.Places.{indexes_of}
 use Rattle.page_places.proofs.Outcomes.{table_shows}
-use Rattle.store_schema.specs.Schema.{schema_two, grp_at}
-use Rattle.store_schema.specs.Tables.{number, number_or_null}
+use Rattle.prof_store.specs.Schema.{schema_two, grp_at}
+use Rattle.prof_store.specs.Tables.{number, number_or_null}
 use Rattle.page_places.proofs.OneLine.{baseline_put}
 use Rattle.page_places.proofs.Failing.{memory_fails, row_fails, store_fails_later}
 use Rattle.page_changes.specs.Causes.{CanPutBaseline}

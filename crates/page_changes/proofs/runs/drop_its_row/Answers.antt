@@ -3,7 +3,7 @@ use Rattle.sqlite_trees.specs.declared.store.Shape.TheVariants as shape
 use Rattle.sqlite_trees.specs.Tree.{without_rowid}
 use Rattle.sqlite_trees.specs.View.{IsShaped}
 use Rattle.page_places.specs.Changes.{HasRows}
-use Rattle.store_schema.specs.Schema.{schema_two, run_at}
+use Rattle.prof_store.specs.Schema.{schema_two, run_at}
 use Rattle.page_places.proofs.Runs.{without_run_from}
 use Rattle.page_changes.proofs.RemovalPlaces.{key_at, table_at}
 use Rattle.page_places.proofs.Failing.{row_fails}

@@ -1,6 +1,6 @@
 use Rattle.std.proofs.Common.{◌≡◌, ◌++◌, map, drop}
 use Rattle.run_stores.specs.Heads.{coef_rows_from}
-use Rattle.store_schema.specs.Lines.{coef_row}
+use Rattle.prof_store.specs.Lines.{coef_row}
 use Rattle.page_imports.proofs.head_lines.coef_rows.Given as goal
 
 -- the lines so far, and those of the derived events that are left, are all of them

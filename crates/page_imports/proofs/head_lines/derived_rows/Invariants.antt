@@ -1,6 +1,6 @@
 use Rattle.std.proofs.Common.{◌≡◌, ◌++◌, map, drop}
 use Rattle.run_stores.specs.Heads.{derived_rows_from}
-use Rattle.store_schema.specs.Lines.{derived_row}
+use Rattle.prof_store.specs.Lines.{derived_row}
 use Rattle.page_imports.proofs.head_lines.derived_rows.Given as goal
 
 -- the lines so far, and those of the derived events that are left, are all of them

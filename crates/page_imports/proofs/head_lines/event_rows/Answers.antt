@@ -6,7 +6,7 @@ use Rattle.cost_rows.specs.Content.{Content}
 use Rattle.plain_tables.specs.Tables.{EventRow}
 use Rattle.run_stores.specs.Heads.{event_row_of, event_rows_from, ColumnFits}
 use Rattle.page_imports.specs.Sums.{AllFit}
-use Rattle.store_schema.specs.Lines.{event_row}
+use Rattle.prof_store.specs.Lines.{event_row}
 use Rattle.page_imports.proofs.Refusals.{refused_on, refused_memory}
 use Rattle.page_imports.proofs.head_lines.event_rows.Goals as goal
 

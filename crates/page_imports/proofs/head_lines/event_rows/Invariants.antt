@@ -2,7 +2,7 @@ use Rattle.std.proofs.Common.{◌≡◌, ◌++◌, ◌<◌, ℕ, map, drop, leng
 use Rattle.cost_rows.specs.Content.{Content}
 use Rattle.cost_rows.specs.Totals.{AreTotals}
 use Rattle.run_stores.specs.Heads.{event_rows, event_rows_from, ColumnFits}
-use Rattle.store_schema.specs.Lines.{event_row}
+use Rattle.prof_store.specs.Lines.{event_row}
 use Rattle.page_imports.proofs.head_lines.event_rows.Given as goal
 
 -- the lines so far, and those of the events that are left, are all of them, and the columns so far fit

@@ -1,9 +1,9 @@
 use Rattle.std.proofs.Common.{map, refl, subst, sym}
 use Rattle.line_fills.specs.Filled.{IsTableFilled}
 use Rattle.line_fills.proofs.Held.{derived_filled}
-use Rattle.store_schema.specs.Lines.{derived_row}
-use Rattle.store_schema.specs.Schema.{schema_two, derived_at}
-use Rattle.store_schema.specs.Tables.{derived_columns}
+use Rattle.prof_store.specs.Lines.{derived_row}
+use Rattle.prof_store.specs.Schema.{schema_two, derived_at}
+use Rattle.prof_store.specs.Tables.{derived_columns}
 use Rattle.page_places.proofs.Outcomes.{match_result}
 use Rattle.page_imports.specs.Causes.{CanBePut}
 use Rattle.page_imports.proofs.Failing.{fails_for}

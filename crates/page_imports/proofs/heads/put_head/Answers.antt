@@ -7,17 +7,17 @@ use Rattle.sqlite_rules.proofs.ListLemmas.{has_got}
 use Rattle.sqlite_trees.proofs.ListLemmas.{all_weaker}
 use Rattle.plain_tables.specs.Changes.{has_run, with_coefs, with_derived, with_events, with_next, with_run}
 use Rattle.plain_tables.specs.Tables.{Tables, RunRow, EventRow, DerivedRow, CoefRow}
-use Rattle.store_schema.specs.Lines.{coef_row, derived_row, event_row, run_row}
-use Rattle.store_schema.specs.Schema.{schema_two, meta_at, run_at, run_event_at, derived_at, coef_at}
-use Rattle.store_schema.specs.Steps.{IsAbove}
-use Rattle.store_schema.specs.declared.table_rows.HeadRows.{HeadRows}
-use Rattle.store_schema.specs.declared.table_rows.RunRow.{RunRow as RunLine}
+use Rattle.prof_store.specs.Lines.{coef_row, derived_row, event_row, run_row}
+use Rattle.prof_store.specs.Schema.{schema_two, meta_at, run_at, run_event_at, derived_at, coef_at}
+use Rattle.prof_store.specs.Steps.{IsAbove}
+use Rattle.prof_store.specs.declared.table_rows.HeadRows.{HeadRows}
+use Rattle.prof_store.specs.declared.table_rows.RunRow.{RunRow as RunLine}
 use Rattle.page_imports.specs.Runs.{with_head_of}
 use Rattle.sqlite_trees.specs.Tree.{Trees}
 use Rattle.page_imports.specs.Needs.{CanAdd, CanBegin, CanFill}
 use Rattle.page_imports.specs.Steps.{KeepsOthers, head_tables}
-use Rattle.store_schema.specs.Tables.{Holds, meta_columns, run_columns, event_columns, derived_columns, coef_columns}
-use Rattle.store_schema.proofs.Sound.{sound_of}
+use Rattle.prof_store.specs.Tables.{Holds, meta_columns, run_columns, event_columns, derived_columns, coef_columns}
+use Rattle.prof_store.proofs.Sound.{sound_of}
 use Rattle.page_imports.specs.Causes.{CanBePut, CanBeWritten, CanPutHeadOf}
 use Rattle.page_imports.proofs.Carried.{put_still}
 use Rattle.page_imports.proofs.Failing.{fails_for}

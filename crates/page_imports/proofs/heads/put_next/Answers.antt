@@ -5,8 +5,8 @@ use Rattle.sqlite_trees.specs.Tree.{put_row}
 use Rattle.sqlite_trees.specs.View.{IsShaped}
 use Rattle.sqlite_trees.specs.declared.store.Shape.TheVariants as shape
 use Rattle.sqlite_value.specs.declared.value.Value.TheVariants.{Null}
-use Rattle.store_schema.specs.Schema.{schema_two, meta_at}
-use Rattle.store_schema.specs.Tables.{meta_columns, number}
+use Rattle.prof_store.specs.Schema.{schema_two, meta_at}
+use Rattle.prof_store.specs.Tables.{meta_columns, number}
 use Rattle.page_places.proofs.Numbered.{next_replaced}
 use Rattle.sqlite_trees.specs.View.{IsStorableRow}
 use Rattle.page_places.proofs.Failing.{memory_fails, row_fails}

@@ -8,10 +8,10 @@ use Rattle.sqlite_value.specs.declared.value.Value.TheVariants.{Int}
 use Rattle.sqlite_value.specs.Order.{value_cmp}
 use Rattle.page_places.specs.Changes.{AreBelow, AreStorable}
 use Rattle.page_places.specs.Places.{indexes_of}
-use Rattle.store_schema.specs.Lines.{run_row}
-use Rattle.store_schema.specs.Schema.{schema_two, run_at}
-use Rattle.store_schema.specs.Tables.{number, run_columns}
-use Rattle.store_schema.proofs.Rows.{runs_below}
+use Rattle.prof_store.specs.Lines.{run_row}
+use Rattle.prof_store.specs.Schema.{schema_two, run_at}
+use Rattle.prof_store.specs.Tables.{number, run_columns}
+use Rattle.prof_store.proofs.Rows.{runs_below}
 use Rattle.page_places.proofs.Numbered.{run_behind}
 use Rattle.page_places.proofs.Store.{runs_there}
 use Rattle.sqlite_trees.specs.View.{IsStorableRow}

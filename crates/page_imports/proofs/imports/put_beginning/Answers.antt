@@ -8,7 +8,7 @@ use Rattle.page_places.proofs.Failing.{reading_fails}
 use Rattle.page_places.proofs.Rooting.{store_resting}
 use Rattle.run_stores.specs.BookRuns.{filed}
 use Rattle.run_stores.proofs.Filed.{head_of_run}
-use Rattle.store_schema.specs.declared.table_rows.RunRow.{RunRow}
+use Rattle.prof_store.specs.declared.table_rows.RunRow.{RunRow}
 use Rattle.page_imports.specs.Causes.{CanImport}
 use Rattle.page_imports.proofs.Failing.{fails_for, refuses_fails}
 use Rattle.page_imports.proofs.Filing.{begins_not, filed_same, head_then}

@@ -5,8 +5,8 @@ use Rattle.page_files.proofs.Standing.{catalog_shown, stands_writing, table_stan
 use Rattle.page_places.proofs.Failing.{reading_fails}
 use Rattle.page_places.proofs.Placing.{placed_at}
 use Rattle.sql_tables.proofs.Contents.{content_there}
-use Rattle.store_schema.specs.Schema.{schema_two, name_at}
-use Rattle.store_schema.specs.Tables.{contents_of}
+use Rattle.prof_store.specs.Schema.{schema_two, name_at}
+use Rattle.prof_store.specs.Tables.{contents_of}
 use Rattle.page_imports.proofs.names.holds_none.Goals as goal
 
 none_mapped : {X Y : Type 0} (f : X → Y) (xs : List X) → map f xs ≡ [] → xs ≡ []

@@ -16,7 +16,7 @@ use Rattle.page_places.specs.Causes.{FailsToNumber}
 use Rattle.page_places.specs.declared.errors.RowError.{RowError}
 use Rattle.page_places.specs.declared.errors.RowError.TheVariants.{Pages, Unstorable, NoRowid}
 use Rattle.page_places.proofs.Outcomes.{numbered_next}
-use Rattle.store_schema.specs.Schema.{schema_two, name_at}
+use Rattle.prof_store.specs.Schema.{schema_two, name_at}
 use Rattle.page_imports.proofs.Numbers.{next_rowid_is}
 use Rattle.page_imports.specs.Causes.{AreNarrow}
 use Rattle.page_imports.proofs.Showing.{index_at, table_at}

@@ -4,7 +4,7 @@ use Rattle.sqlite_pool.specs.StoredLaws.{Keeps-trans}
 use Rattle.page_places.proofs.Failing.{store_fails_later}
 use Rattle.page_imports.specs.Causes.{CanBeNumbered}
 use Rattle.page_imports.specs.Names.{AreUnheld, bytes_of, with_names}
-use Rattle.store_schema.specs.Tables.{Holds}
+use Rattle.prof_store.specs.Tables.{Holds}
 use Rattle.page_imports.proofs.Failing.{fails_for}
 use Rattle.page_imports.proofs.Stepping.{shows_after}
 use Rattle.page_imports.proofs.names.number_names.Goals as goal

@@ -1,6 +1,6 @@
 use Rattle.std.proofs.Common.{refl, subst, sym}
 use Rattle.line_fills.specs.Filled.{IsTableFilled}
-use Rattle.store_schema.specs.Schema.{schema_two, name_at}
+use Rattle.prof_store.specs.Schema.{schema_two, name_at}
 use Rattle.page_imports.specs.declared.numbering.NewName.{NewName}
 use Rattle.page_imports.specs.Names.{bytes_of, name_line}
 use Rattle.page_imports.proofs.Named.{names_filled}

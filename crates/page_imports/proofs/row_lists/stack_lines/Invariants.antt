@@ -1,6 +1,6 @@
 use Rattle.std.proofs.Common.{◌≡◌, map}
 use Rattle.page_imports.specs.FromRows.{line_of_stack}
-use Rattle.store_schema.specs.Lines.{stack_row}
+use Rattle.prof_store.specs.Lines.{stack_row}
 use Rattle.page_imports.proofs.row_lists.stack_lines.Given as goal
 
 -- the lines of the rows so far

@@ -5,8 +5,8 @@ use Rattle.line_fills.specs.Filled.{IsTableFilled}
 use Rattle.line_fills.proofs.Held.{calls_filled}
 use Rattle.run_stores.specs.Files.{call_rows}
 use Rattle.run_stores.proofs.Rows.{calls_of_run}
-use Rattle.store_schema.specs.Schema.{schema_two, arc_at}
-use Rattle.store_schema.specs.Tables.{arc_columns}
+use Rattle.prof_store.specs.Schema.{schema_two, arc_at}
+use Rattle.prof_store.specs.Tables.{arc_columns}
 use Rattle.page_imports.specs.Lines.{call_line}
 use Rattle.page_places.proofs.Outcomes.{match_result}
 use Rattle.page_imports.specs.Causes.{CanBePut, CanPutCalls}

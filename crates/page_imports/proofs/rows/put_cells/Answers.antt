@@ -5,8 +5,8 @@ use Rattle.line_fills.specs.Filled.{IsTableFilled}
 use Rattle.line_fills.proofs.Held.{cells_filled}
 use Rattle.run_stores.specs.Files.{cell_rows}
 use Rattle.run_stores.proofs.Rows.{cells_of_run}
-use Rattle.store_schema.specs.Schema.{schema_two, thread_cell_at}
-use Rattle.store_schema.specs.Tables.{cell_columns}
+use Rattle.prof_store.specs.Schema.{schema_two, thread_cell_at}
+use Rattle.prof_store.specs.Tables.{cell_columns}
 use Rattle.page_imports.specs.Lines.{cell_line}
 use Rattle.page_places.proofs.Outcomes.{match_result}
 use Rattle.page_imports.specs.Causes.{CanBePut, CanPutCells}

@@ -19,8 +19,8 @@ use Rattle.plain_tables.specs.declared.errors.StoreError.{StoreError}
 use Rattle.run_stores.specs.Files.{call_rows, cell_rows, stack_rows, with_rows}
 use Rattle.run_stores.proofs.BookNames.{all_grown}
 use Rattle.page_places.proofs.Outcomes.{match_result}
-use Rattle.store_schema.specs.Tables.{Holds, stack_columns}
-use Rattle.store_schema.specs.Schema.{schema_two, name_at, arc_at, stack_at, thread_cell_at}
+use Rattle.prof_store.specs.Tables.{Holds, stack_columns}
+use Rattle.prof_store.specs.Schema.{schema_two, name_at, arc_at, stack_at, thread_cell_at}
 use Rattle.page_imports.specs.Causes.{CanBeNumbered, CanPutRows, CanPutStacks}
 use Rattle.page_imports.specs.Needs.{HasNoCall, HasNoCell, HasNoRow, HasNoStack}
 use Rattle.page_imports.specs.Steps.{HasMade, row_tables}

@@ -5,9 +5,9 @@ use Rattle.line_fills.specs.Filled.{IsTableFilled}
 use Rattle.line_fills.proofs.Held.{stacks_filled}
 use Rattle.run_stores.specs.Files.{stack_rows}
 use Rattle.run_stores.proofs.Rows.{stacks_of_run}
-use Rattle.store_schema.specs.Lines.{stack_row}
-use Rattle.store_schema.specs.Schema.{schema_two, stack_at}
-use Rattle.store_schema.specs.Tables.{stack_columns}
+use Rattle.prof_store.specs.Lines.{stack_row}
+use Rattle.prof_store.specs.Schema.{schema_two, stack_at}
+use Rattle.prof_store.specs.Tables.{stack_columns}
 use Rattle.page_places.proofs.Outcomes.{match_result}
 use Rattle.page_imports.specs.Causes.{CanBePut, CanPutStacks}
 use Rattle.page_imports.proofs.Failing.{fails_for, refuses_fails}

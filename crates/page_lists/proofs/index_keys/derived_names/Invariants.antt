@@ -1,6 +1,6 @@
 use Rattle.std.proofs.Common.{◌≡◌, ◌∷◌, [], map, take}
 use Rattle.sqlite_value.specs.declared.value.Value.TheVariants.{Blob}
-use Rattle.store_schema.specs.Tables.{number}
+use Rattle.prof_store.specs.Tables.{number}
 use Rattle.page_lists.specs.Indexed.{derived_name_key}
 use Rattle.page_lists.proofs.index_keys.derived_names.Given as goal
 

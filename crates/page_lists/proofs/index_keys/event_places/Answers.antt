@@ -1,7 +1,7 @@
 use Rattle.std.proofs.Common.{◌∷◌, [], ℕ, map, refl, ap, ◌∙◌}
 use Rattle.std.proofs.lemmas.List.{take_all}
 use Rattle.std.proofs.lemmas.Result.{IfOk-from_err}
-use Rattle.store_schema.specs.Tables.{number}
+use Rattle.prof_store.specs.Tables.{number}
 use Rattle.page_lists.specs.Indexed.{event_place_key}
 use Rattle.page_lists.proofs.HeadLists.{next_made}
 use Rattle.page_lists.proofs.index_keys.event_places.Goals as goal

@@ -1,5 +1,5 @@
 use Rattle.std.proofs.Common.{◌≡◌, ◌∷◌, [], map, take}
-use Rattle.store_schema.specs.Tables.{number}
+use Rattle.prof_store.specs.Tables.{number}
 use Rattle.page_lists.specs.Indexed.{event_place_key}
 use Rattle.page_lists.proofs.index_keys.event_places.Given as goal
 

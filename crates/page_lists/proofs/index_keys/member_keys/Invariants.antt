@@ -1,6 +1,6 @@
 use Rattle.std.proofs.Common.{◌≡◌, ◌∷◌, [], map, take}
 use Rattle.sqlite_value.specs.declared.value.Value.TheVariants.{Text}
-use Rattle.store_schema.specs.Tables.{number}
+use Rattle.prof_store.specs.Tables.{number}
 use Rattle.page_lists.specs.Indexed.{member_key}
 use Rattle.page_lists.proofs.index_keys.member_keys.Given as goal
 

@@ -1,7 +1,7 @@
 use Rattle.std.proofs.Common.{◌≡◌, refl, inl, inr, ◌∙◌, length-set, arith, subst}
 use Rattle.std.proofs.lemmas.Option.{slice_get_cases}
 use Rattle.std.proofs.lemmas.Result.{err_from_is_err_and}
-use Rattle.store_schema.specs.Schema.{schema_two}
+use Rattle.prof_store.specs.Schema.{schema_two}
 use Rattle.page_files.proofs.Reading.{OnlyReads-refl, OnlyReads-trans}
 use Rattle.page_places.specs.Roots.{AreFound, table_name, table_tree}
 use Rattle.page_places.proofs.Failing.{reads_later}

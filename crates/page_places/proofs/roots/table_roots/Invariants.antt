@@ -1,7 +1,7 @@
 use Rattle.std.proofs.Common.{◌≡◌, ◌<◌, ℕ, List, length}
 use Rattle.sqlite_trees.specs.Tree.{Trees}
 use Rattle.page_files.specs.Files.{IsFaithful, IsUsable, OnlyReads}
-use Rattle.store_schema.specs.Schema.{schema_two}
+use Rattle.prof_store.specs.Schema.{schema_two}
 use Rattle.page_places.specs.Roots.{AreFound, AreNames, IsStoreOf, table_name, table_tree}
 use Rattle.page_places.proofs.roots.table_roots.Given as goal
 

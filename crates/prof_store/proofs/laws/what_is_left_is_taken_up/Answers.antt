@@ -2,7 +2,7 @@ use Rattle.std.proofs.Common.{sym}
 use Rattle.sqlite_trees.specs.Objects.{catalog_tree}
 use Rattle.sqlite_catalog.proofs.ReadLemmas.{lists_once}
 use Rattle.sqlite.specs.Held.{state}
-use Rattle.store_schema.specs.Schema.{schema_one, schema_two}
+use Rattle.prof_store.specs.Schema.{schema_one, schema_two}
 use Rattle.prof_store.proofs.laws.what_is_left_is_taken_up.Goals as goal
 
 pub returns-clause-second : goal.returns-clause-second

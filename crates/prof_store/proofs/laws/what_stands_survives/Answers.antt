@@ -1,7 +1,7 @@
 use Rattle.std.proofs.Common.{◌≡◌, sym, subst, ap, ◌∙◌}
 use Rattle.sqlite.specs.Effect.{Database}
-use Rattle.store_schema.specs.First.{HoldsFirst}
-use Rattle.store_schema.specs.Tables.{Holds}
+use Rattle.prof_store.specs.First.{HoldsFirst}
+use Rattle.prof_store.specs.Tables.{Holds}
 use Rattle.prof_store.proofs.laws.what_stands_survives.Goals as goal
 
 pub returns-clause-second : goal.returns-clause-second

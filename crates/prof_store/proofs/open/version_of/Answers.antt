@@ -2,7 +2,7 @@ use Rattle.sqlite_resolve.specs.Compile.{first}
 use Rattle.sqlite_tied.specs.Compute.{everything}
 use Rattle.std.proofs.Common.{[]}
 use Rattle.sql_tables.proofs.Returning.{HasNoReturning}
-use Rattle.store_schema.specs.Texts.{schema_sql}
+use Rattle.prof_store.specs.Texts.{schema_sql}
 use Rattle.prof_store.proofs.Opening.{only_asks}
 use Rattle.prof_store.proofs.open.version_of.Goals as goal
 

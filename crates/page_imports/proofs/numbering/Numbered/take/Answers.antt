@@ -1,5 +1,5 @@
 use Rattle.std.proofs.Common.{◌<◌, ◌^◌, ◌++◌, [], ◌∷◌, Result, Ok, Err, IfErr, OnOk, MatchResult, ap, refl, subst, sym, ◌∙◌}
-use Rattle.store_schema.proofs.Names.{is_held, not_held}
+use Rattle.prof_store.proofs.Names.{is_held, not_held}
 use Rattle.page_imports.specs.Names.{GetSmallNumbers}
 use Rattle.page_imports.proofs.Failing.{refuses_for}
 use Rattle.page_imports.proofs.Named.{held_taken, new_taken, number_of_new}

@@ -1,5 +1,5 @@
 use Rattle.std.proofs.Common.{sym, refl}
-use Rattle.store_schema.specs.Lines.{cell_row}
+use Rattle.prof_store.specs.Lines.{cell_row}
 use Rattle.page_runs.proofs.handed.GatheredLinesLineSink.take.Goals as goal
 
 pub returns : goal.returns

@@ -1,8 +1,8 @@
 use Rattle.std.proofs.Common.{refl, sym, subst, arith}
 use Rattle.std.proofs.lemmas.Result.{IfOk-from_err, IfOk-weaker}
 use Rattle.run_stores.specs.Walks.{CallsFoldTo}
-use Rattle.store_schema.specs.Schema.{arc_at}
-use Rattle.store_schema.specs.Tables.{arc_columns}
+use Rattle.prof_store.specs.Schema.{arc_at}
+use Rattle.prof_store.specs.Tables.{arc_columns}
 use Rattle.page_lists.specs.Shown.{ShowsLines}
 use Rattle.page_lists.specs.Walks.{AreOfRun}
 use Rattle.page_runs.proofs.RunLines.{calls_are}

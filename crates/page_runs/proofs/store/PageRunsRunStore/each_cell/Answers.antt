@@ -2,8 +2,8 @@ use Rattle.std.proofs.Common.{refl, sym, subst, arith}
 use Rattle.run_stores.specs.Walks.{CellsFoldTo}
 use Rattle.plain_tables.specs.RunRows.{cells_in}
 use Rattle.plain_tables.specs.Tables.{Tables}
-use Rattle.store_schema.specs.Schema.{thread_cell_at}
-use Rattle.store_schema.specs.Tables.{cell_columns}
+use Rattle.prof_store.specs.Schema.{thread_cell_at}
+use Rattle.prof_store.specs.Tables.{cell_columns}
 use Rattle.page_files.specs.Files.{IsFaithful}
 use Rattle.page_lists.specs.Shown.{ShowsLines}
 use Rattle.page_lists.specs.Walks.{AreOfRun}

@@ -1,8 +1,8 @@
 use Rattle.std.proofs.Common.{fold, map, refl, sym, ap, subst, ◌∙◌, arith}
 use Rattle.std.proofs.lemmas.Result.{IfOk-from_err}
 use Rattle.run_stores.specs.Book.{stack_held}
-use Rattle.store_schema.specs.Schema.{stack_at}
-use Rattle.store_schema.specs.Tables.{stack_columns}
+use Rattle.prof_store.specs.Schema.{stack_at}
+use Rattle.prof_store.specs.Tables.{stack_columns}
 use Rattle.page_lists.specs.Shown.{ShowsLines}
 use Rattle.page_lists.specs.Walks.{AreOfRun}
 use Rattle.page_runs.proofs.RunLines.{stacks_are}

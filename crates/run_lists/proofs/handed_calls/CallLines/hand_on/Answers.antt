@@ -1,5 +1,5 @@
 use Rattle.std.proofs.Common.{◌≡◌, ◌≤◌, List, ℕ, [], Some, length, sym, ap, subst, subst₂, ◌∙◌}
-use Rattle.store_schema.specs.Lines.{call_row}
+use Rattle.prof_store.specs.Lines.{call_row}
 use Rattle.run_lists.specs.HeldCalls.{HasTakenCalls, lines_from}
 use Rattle.run_lists.proofs.CallRows.{row_handed}
 use Rattle.run_lists.proofs.Steps.{on_ok_then}

@@ -1,5 +1,5 @@
 use Rattle.std.proofs.Common.{◌≤◌, ◌++◌, ◌∷◌, [], length, Result, Ok, Err, OnOk, Some, sym, subst, ◌∙◌}
-use Rattle.store_schema.specs.Lines.{call_row}
+use Rattle.prof_store.specs.Lines.{call_row}
 use Rattle.run_lists.specs.HeldCalls.{HasTakenCalls}
 use Rattle.run_lists.proofs.CallRows.{part_taken, row_begun}
 use Rattle.run_lists.proofs.handed_calls.CallLines.take_line.Goals as goal

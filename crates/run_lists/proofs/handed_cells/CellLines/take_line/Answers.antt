@@ -1,5 +1,5 @@
 use Rattle.std.proofs.Common.{◌<◌, subst}
-use Rattle.store_schema.specs.Lines.{cell_row}
+use Rattle.prof_store.specs.Lines.{cell_row}
 use Rattle.run_lists.proofs.RowSteps.{one_cell}
 use Rattle.run_lists.proofs.Steps.{on_ok_then}
 use Rattle.run_lists.proofs.handed_cells.CellLines.take_line.Goals as goal

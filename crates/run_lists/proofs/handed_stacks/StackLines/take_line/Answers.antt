@@ -1,5 +1,5 @@
 use Rattle.run_stores.specs.Book.{stack_held}
-use Rattle.store_schema.specs.Lines.{held_stack}
+use Rattle.prof_store.specs.Lines.{held_stack}
 use Rattle.run_lists.proofs.RowSteps.{comes_more}
 use Rattle.run_lists.proofs.Steps.{on_ok_then}
 use Rattle.run_lists.proofs.handed_stacks.StackLines.take_line.Goals as goal
