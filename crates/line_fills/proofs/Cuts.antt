@@ -7,7 +7,7 @@ use Rattle.std.specs.Borrow.{Bor}
 use Rattle.sqlite_record.specs.Record.{decode}
 use Rattle.sqlite_trees.proofs.ListLemmas.{map-map}
 use Rattle.sqlite_value.specs.Order.{Row}
-use Rattle.page_edits.specs.Places.{entries_given}
+use Rattle.page_files.specs.Places.{entries_given}
 use Rattle.line_fills.specs.Records.{AreRecordsOf, IsWritable, cut}
 
 pub cut-append : (bytes more lengths : List ℕ) → sum lengths ≡ length bytes → cut (bytes ++ more) (lengths ++ length more ∷ []) ≡ cut bytes lengths ++ more ∷ []

@@ -15,7 +15,7 @@ use Rattle.sqlite_trees.specs.View.{IsShaped, is_int}
 use Rattle.sqlite_trees.specs.declared.store.Shape.TheVariants as shape
 use Rattle.sqlite_trees.proofs.ListLemmas.{all-permutation}
 use Rattle.sqlite_sql.specs.Catalog.{entry_of, IsIndexOf}
-use Rattle.page_edits.specs.Places.{place_all}
+use Rattle.page_files.specs.Places.{place_all}
 use Rattle.page_places.specs.Fills.{Fills}
 use Rattle.page_places.specs.Keys.{HeadsDiffer, same_head}
 use Rattle.page_places.proofs.Entries.{insert_entry_same, rowid_of_entry}

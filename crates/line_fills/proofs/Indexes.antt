@@ -11,7 +11,7 @@ use Rattle.sqlite_store.specs.declared.catalog.Wanted.{Wanted}
 use Rattle.sqlite_trees.specs.Tree.{Trees, IsAscending, insert_entry, with_tree}
 use Rattle.sqlite_value.specs.Keys.{plain}
 use Rattle.sqlite_value.specs.Order.{Row}
-use Rattle.page_edits.specs.Places.{place_all}
+use Rattle.page_files.specs.Places.{place_all}
 use Rattle.page_files.specs.declared.files.PageFile.{PageFile}
 use Rattle.page_files.specs.Files.{IsFaithful, IsUsable}
 use Rattle.page_files.specs.Held.{Writes}

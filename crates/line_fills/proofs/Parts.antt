@@ -7,7 +7,7 @@ use Rattle.std.proofs.lemmas.List.Sorted.{All-permutation}
 use Rattle.sqlite_record.specs.Record.{decode}
 use Rattle.sqlite_sql.specs.Catalog.{entry_of}
 use Rattle.sqlite_value.specs.Order.{Row}
-use Rattle.page_edits.proofs.Placing.{take_more_of}
+use Rattle.page_files.proofs.Placing.{take_more_of}
 use Rattle.line_fills.specs.Rows.{ArePlacesOf, HaveRowids, entries_at, numbered, row_at}
 use Rattle.line_fills.proofs.Numbers.{numbered-append}
 

@@ -14,8 +14,8 @@ use Rattle.sqlite_value.specs.Keys.{plain}
 use Rattle.sqlite_trees.specs.declared.store.Shape.{Shape}
 use Rattle.sqlite_trees.specs.Tree.{Trees, with_tree}
 use Rattle.sqlite_value.specs.Order.{Row}
-use Rattle.page_edits.specs.Places.{Place, place_all}
-use Rattle.page_edits.proofs.Placing.{place_all-append}
+use Rattle.page_files.specs.Places.{Place, place_all}
+use Rattle.page_files.proofs.Placing.{place_all-append}
 use Rattle.page_files.specs.declared.files.PageFile.{PageFile}
 use Rattle.page_files.specs.Held.{Writes}
 use Rattle.page_files.specs.Writes.{AtTree}

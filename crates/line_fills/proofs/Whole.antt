@@ -14,8 +14,8 @@ use Rattle.sqlite_trees.specs.Tree.{Trees, put_row, with_tree}
 use Rattle.sqlite_trees.specs.View.{IsShaped}
 use Rattle.sqlite_value.specs.declared.value.Value.TheVariants.{Int}
 use Rattle.sqlite_value.specs.Order.{Row}
-use Rattle.page_edits.specs.Places.{place_all}
-use Rattle.page_edits.proofs.Ordered.{table_above}
+use Rattle.page_files.specs.Places.{place_all}
+use Rattle.page_files.proofs.Ordered.{table_above}
 use Rattle.page_files.specs.declared.files.PageFile.{PageFile}
 use Rattle.page_files.specs.Held.{Writes}
 use Rattle.page_places.specs.declared.places.Place.{Place}

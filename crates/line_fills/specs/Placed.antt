@@ -12,7 +12,7 @@ use Rattle.sqlite_trees.specs.Tree.{Trees, IsAscending, insert_entry, with_tree}
 use Rattle.sqlite_trees.specs.View.{IsShaped}
 use Rattle.sqlite_value.specs.Keys.{plain}
 use Rattle.sqlite_value.specs.Order.{Row}
-use Rattle.page_edits.specs.Places.{Place, place_all}
+use Rattle.page_files.specs.Places.{Place, place_all}
 use Rattle.page_files.specs.declared.files.PageFile.{PageFile}
 use Rattle.page_files.specs.Files.{IsFaithful}
 use Rattle.page_files.specs.Held.{Writes}

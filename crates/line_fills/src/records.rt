@@ -1,7 +1,7 @@
 // Records that lie in one buffer (specs/Records.antt).
 ghost use Rattle.std.specs.Prelude.{◌≡◌, [], ◌∷◌, ◌++◌, map, IfOk, OnOk};
 ghost use Rattle.sqlite_record.specs.Record.{decode};
-ghost use Rattle.page_edits.specs.Places.{rows_given};
+ghost use Rattle.page_files.specs.Places.{rows_given};
 ghost use Rattle.line_fills.specs.Rows.{HaveRowids, numbered};
 
 use std::alloc::{AllocError, Global};

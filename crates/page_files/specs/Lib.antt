@@ -3,3 +3,12 @@ pub mod Held
 pub mod Lasts
 pub mod Trees
 pub mod Writes
+pub mod OneTree
+pub mod Filled
+pub mod Leaves
+pub mod Rows
+pub mod Fills
+pub mod Places
+pub mod Removals
+pub mod Sought
+pub mod Trims

@@ -13,7 +13,7 @@ use Rattle.sqlite_trees.specs.declared.store.Shape.{Shape}
 use Rattle.sqlite_trees.specs.Tree.{Trees, with_tree}
 use Rattle.sqlite_value.specs.Order.{Row}
 use Rattle.sqlite_wal.specs.Recovery.{Image}
-use Rattle.page_edits.specs.Places.{Place, place_all}
+use Rattle.page_files.specs.Places.{Place, place_all}
 use Rattle.page_files.specs.declared.files.PageFile.{PageFile}
 use Rattle.page_files.specs.Files.{faults, may_leave, page_size, pages_of, IsFaithful}
 use Rattle.page_files.specs.Held.{Has, Writes}

@@ -4,7 +4,7 @@ ghost use Rattle.sqlite_pool.specs.Pool as pools;
 ghost use Rattle.sqlite_pool.specs.Stored.{Keeps};
 ghost use Rattle.sqlite_record.specs.Strict.{IsRecord};
 ghost use Rattle.sqlite_trees.specs.Tree.{put_row, insert_entry};
-ghost use Rattle.page_edits.specs.Places.{rows_given, entries_given};
+ghost use Rattle.page_files.specs.Places.{rows_given, entries_given};
 ghost use Rattle.page_files.specs.Files.{IsUsable};
 ghost use Rattle.page_files.specs.Writes.{PlacesRows};
 
@@ -29,7 +29,7 @@ impl<D: Disk> PageFile<D> {
         ensures usable { OnOk result (IsUsable self.new) }
         ensures keeps { Keeps (pools.state self.old.pool) (pools.state self.new.pool) }
     {
-        page_edits::append(&mut self.pool, alloc, root, rows)?;
+        crate::tree_appends::append(&mut self.pool, alloc, root, rows)?;
         self.if_usable()
     }
 
@@ -52,7 +52,7 @@ impl<D: Disk> PageFile<D> {
         ensures usable { OnOk result (IsUsable self.new) }
         ensures keeps { Keeps (pools.state self.old.pool) (pools.state self.new.pool) }
     {
-        page_edits::append_entries(&mut self.pool, alloc, root, order, entries)?;
+        crate::tree_appends::append_entries(&mut self.pool, alloc, root, order, entries)?;
         self.if_usable()
     }
 }

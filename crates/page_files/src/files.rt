@@ -15,7 +15,7 @@ ghost use Rattle.page_rows.specs.Rows.{from_rowid, rows_of, HasTable};
 ghost use Rattle.page_rows.specs.Tables.{IsIndexNamed, IsNamed, root_of_tree};
 ghost use Rattle.page_rows.specs.Walks.{HasWalked, Walks};
 
-use page_edits::Scratch;
+use crate::bounded::Scratch;
 use page_rows::{RowSink, WalkError};
 use sqlite_disk::{Disk, Files};
 use sqlite_pages::Error;

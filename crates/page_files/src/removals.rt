@@ -2,7 +2,7 @@
 ghost use Rattle.std.specs.Prelude.{OnOk};
 ghost use Rattle.sqlite_pool.specs.Pool as pools;
 ghost use Rattle.sqlite_pool.specs.Stored.{Keeps};
-ghost use Rattle.page_edits.specs.Removals.{has_prefix, without, without_rowids};
+ghost use Rattle.page_files.specs.Removals.{has_prefix, without, without_rowids};
 ghost use Rattle.page_files.specs.Files.{IsUsable};
 ghost use Rattle.page_files.specs.Writes.{EditsTree};
 
@@ -25,7 +25,7 @@ impl<D: Disk> PageFile<D> {
         ensures usable { OnOk result (IsUsable self.new) }
         ensures keeps { Keeps (pools.state self.old.pool) (pools.state self.new.pool) }
     {
-        page_edits::delete_all(&mut self.pool, alloc, root, rowids)?;
+        crate::tree_removals::delete_all(&mut self.pool, alloc, root, rowids)?;
         self.if_usable()
     }
 
@@ -45,7 +45,7 @@ impl<D: Disk> PageFile<D> {
         ensures usable { OnOk result (IsUsable self.new) }
         ensures keeps { Keeps (pools.state self.old.pool) (pools.state self.new.pool) }
     {
-        page_edits::remove_under(&mut self.pool, alloc, root, order, prefix)?;
+        crate::tree_removals::remove_under(&mut self.pool, alloc, root, order, prefix)?;
         self.if_usable()
     }
 }

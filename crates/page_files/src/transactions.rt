@@ -32,7 +32,7 @@ impl<D: Disk> PageFile<D> {
         ensures usable { OnOk result (IsUsable self.new) }
         ensures keeps { Keeps (pools.state self.old.pool) (pools.state self.new.pool) }
     {
-        page_edits::put(&mut self.pool, &mut self.scratch, root, rowid, fields)?;
+        crate::edits::put(&mut self.pool, &mut self.scratch, root, rowid, fields)?;
         self.if_usable()
     }
 
@@ -46,7 +46,7 @@ impl<D: Disk> PageFile<D> {
         ensures usable { OnOk result (IsUsable self.new) }
         ensures keeps { Keeps (pools.state self.old.pool) (pools.state self.new.pool) }
     {
-        page_edits::delete(&mut self.pool, &mut self.scratch, root, rowid)?;
+        crate::edits::delete(&mut self.pool, &mut self.scratch, root, rowid)?;
         self.if_usable()
     }
 
@@ -69,7 +69,7 @@ impl<D: Disk> PageFile<D> {
         ensures usable { OnOk result (IsUsable self.new) }
         ensures keeps { Keeps (pools.state self.old.pool) (pools.state self.new.pool) }
     {
-        page_edits::insert(
+        crate::edits::insert(
             &mut self.pool,
             &mut self.scratch,
             root,
@@ -90,7 +90,7 @@ impl<D: Disk> PageFile<D> {
         ensures usable { OnOk result (IsUsable self.new) }
         ensures keeps { Keeps (pools.state self.old.pool) (pools.state self.new.pool) }
     {
-        page_edits::remove(&mut self.pool, &mut self.scratch, root, order, entry)?;
+        crate::edits::remove(&mut self.pool, &mut self.scratch, root, order, entry)?;
         self.if_usable()
     }
 

@@ -25,7 +25,7 @@ use Rattle.sqlite_value.specs.Keys.{plain}
 use Rattle.sqlite_value.specs.Order.{Row, column}
 use Rattle.sql_tables.proofs.Queries.{has_permuted}
 use Rattle.sql_tables.proofs.Rows.{Numbered, id_is, left_by_picks}
-use Rattle.page_edits.specs.Removals.{has_prefix, without}
+use Rattle.page_files.specs.Removals.{has_prefix, without}
 use Rattle.page_files.specs.declared.files.PageFile.{PageFile}
 use Rattle.page_files.specs.Files.{IsFaithful}
 use Rattle.page_files.specs.Held.{Writes}

@@ -10,7 +10,7 @@ use Rattle.sqlite_store.specs.declared.catalog.Wanted.{Wanted}
 use Rattle.sqlite_value.specs.declared.value.Value.TheVariants.{Int}
 use Rattle.sqlite_value.specs.Keys.{plain}
 use Rattle.sqlite_value.specs.Order.{Row, column, value_cmp}
-use Rattle.page_edits.specs.Removals.{has_prefix, without}
+use Rattle.page_files.specs.Removals.{has_prefix, without}
 use Rattle.page_files.specs.declared.files.PageFile.{PageFile}
 use Rattle.page_files.specs.Files.{IsFaithful}
 use Rattle.page_files.specs.Trees.{ShowsIndex, trees_of}

@@ -5,7 +5,7 @@ use Rattle.sqlite_pool.specs.Pool.{state}
 use Rattle.sqlite_pool.specs.StoredLaws.{Keeps-refl, Keeps-trans}
 use Rattle.sqlite_trees.specs.Tree.{put_row}
 use Rattle.sqlite_trees.specs.declared.store.Shape.TheVariants.{Table}
-use Rattle.page_edits.specs.Places.{rows_given}
+use Rattle.page_files.specs.Places.{rows_given}
 use Rattle.page_files.specs.Writes.{FailsToWrite}
 use Rattle.page_places.proofs.Failing.{memory_fails, pages_fail, store_fails_later}
 use Rattle.page_places.proofs.Outcomes.{as_given}

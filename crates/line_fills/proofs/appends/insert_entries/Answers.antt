@@ -8,7 +8,7 @@ use Rattle.sqlite_sql.specs.Catalog.{entry_of}
 use Rattle.sqlite_trees.specs.Tree.{insert_entry}
 use Rattle.sqlite_trees.specs.declared.store.Shape.TheVariants.{Index}
 use Rattle.sqlite_value.specs.Keys.{plain}
-use Rattle.page_edits.specs.Places.{entries_given}
+use Rattle.page_files.specs.Places.{entries_given}
 use Rattle.page_files.specs.Writes.{FailsToWrite}
 use Rattle.page_places.proofs.Failing.{memory_fails, pages_fail, store_fails_later}
 use Rattle.line_fills.specs.Records.{IsWritable}

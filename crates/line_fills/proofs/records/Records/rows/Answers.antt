@@ -6,7 +6,7 @@ use Rattle.sqlite_record.specs.Record.{decode}
 use Rattle.sqlite_store.specs.Db.{table_row}
 use Rattle.sqlite_value.specs.declared.value.Value.TheVariants.{Int}
 use Rattle.sqlite_value.specs.Order.{Row}
-use Rattle.page_edits.specs.Places.{rows_given}
+use Rattle.page_files.specs.Places.{rows_given}
 use Rattle.line_fills.specs.Rows.{row_at}
 use Rattle.line_fills.proofs.Numbers.{numbered-more}
 use Rattle.std.proofs.lemmas.Result.{IfOk-from_err}

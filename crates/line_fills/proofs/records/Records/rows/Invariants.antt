@@ -1,6 +1,6 @@
 use Rattle.std.proofs.Common.{◌≡◌, map, take}
 use Rattle.sqlite_record.specs.Record.{decode}
-use Rattle.page_edits.specs.Places.{rows_given}
+use Rattle.page_files.specs.Places.{rows_given}
 use Rattle.line_fills.specs.Rows.{numbered}
 use Rattle.line_fills.proofs.records.Records.rows.Given as goal
 

@@ -2,7 +2,7 @@ use Rattle.std.proofs.lemmas.Result.{err_from_is_err_and}
 use Rattle.std.proofs.Common.{inr}
 use Rattle.sqlite_pages.proofs.Doubt.{no_doubt}
 use Rattle.sqlite_trees.specs.Tree.{put_row}
-use Rattle.page_edits.specs.Places.{place_all, rows_given}
+use Rattle.page_files.specs.Places.{place_all, rows_given}
 use Rattle.page_files.specs.declared.files.PageFile.{PageFile}
 use Rattle.page_files.proofs.Causes.{fails_within}
 use Rattle.page_files.proofs.Editing.{edit_done}

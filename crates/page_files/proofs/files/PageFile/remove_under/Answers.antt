@@ -1,7 +1,7 @@
 use Rattle.std.proofs.Common.{inr}
 use Rattle.std.proofs.lemmas.Result.{err_from_is_err_and}
 use Rattle.sqlite_pages.proofs.Doubt.{no_doubt}
-use Rattle.page_edits.specs.Removals.{has_prefix, without}
+use Rattle.page_files.specs.Removals.{has_prefix, without}
 use Rattle.page_files.specs.declared.files.PageFile.{PageFile}
 use Rattle.page_files.proofs.Causes.{fails_within}
 use Rattle.page_files.proofs.Editing.{edit_done}
