@@ -3,3 +3,4 @@ pub mod Known
 pub mod Outcomes
 pub mod Writes
 pub mod SinkLemmas
+mod OnLemmas

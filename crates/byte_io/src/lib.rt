@@ -1,5 +1,6 @@
 //! Bytes in and out: sources and the one loop that reads them, texts that are written whole or as far as
-//! could be, names as they are printed, and the files that the program is told of.
+//! could be, texts of answers, in which a long name is held once, names as they are printed, and the files that the
+//! program is told of.
 #![tactic(auto)]
 
 // The bytes of a name, with escapes.

@@ -6,7 +6,7 @@ ghost use Rattle.byte_io.specs.Written.{GoesOn, written};
 use crate::parts::{Part, Printed};
 use crate::texts::SharedText;
 use crate::writers::TextWriter;
-use byte_io::push_escaped;
+use crate::escapes::push_escaped;
 use std::alloc::{AllocError, Global};
 use std::collections::BTreeMap;
 use std::mem;

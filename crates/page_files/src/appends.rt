@@ -9,6 +9,7 @@ ghost use Rattle.page_files.specs.Files.{IsUsable};
 ghost use Rattle.page_files.specs.Writes.{PlacesRows};
 
 use crate::files::PageFile;
+use crate::tree_appends;
 use sqlite_disk::Disk;
 use sqlite_pages::Error;
 use sqlite_trees::store::Shape;
@@ -29,7 +30,7 @@ impl<D: Disk> PageFile<D> {
         ensures usable { OnOk result (IsUsable self.new) }
         ensures keeps { Keeps (pools.state self.old.pool) (pools.state self.new.pool) }
     {
-        crate::tree_appends::append(&mut self.pool, alloc, root, rows)?;
+        tree_appends::append(&mut self.pool, alloc, root, rows)?;
         self.if_usable()
     }
 
@@ -52,7 +53,7 @@ impl<D: Disk> PageFile<D> {
         ensures usable { OnOk result (IsUsable self.new) }
         ensures keeps { Keeps (pools.state self.old.pool) (pools.state self.new.pool) }
     {
-        crate::tree_appends::append_entries(&mut self.pool, alloc, root, order, entries)?;
+        tree_appends::append_entries(&mut self.pool, alloc, root, order, entries)?;
         self.if_usable()
     }
 }

@@ -7,6 +7,7 @@ ghost use Rattle.page_files.specs.Files.{IsUsable};
 ghost use Rattle.page_files.specs.Writes.{EditsTree};
 
 use crate::files::PageFile;
+use crate::tree_removals;
 use sqlite_disk::Disk;
 use sqlite_pages::Error;
 use sqlite_trees::store::Shape;
@@ -25,7 +26,7 @@ impl<D: Disk> PageFile<D> {
         ensures usable { OnOk result (IsUsable self.new) }
         ensures keeps { Keeps (pools.state self.old.pool) (pools.state self.new.pool) }
     {
-        crate::tree_removals::delete_all(&mut self.pool, alloc, root, rowids)?;
+        tree_removals::delete_all(&mut self.pool, alloc, root, rowids)?;
         self.if_usable()
     }
 
@@ -45,7 +46,7 @@ impl<D: Disk> PageFile<D> {
         ensures usable { OnOk result (IsUsable self.new) }
         ensures keeps { Keeps (pools.state self.old.pool) (pools.state self.new.pool) }
     {
-        crate::tree_removals::remove_under(&mut self.pool, alloc, root, order, prefix)?;
+        tree_removals::remove_under(&mut self.pool, alloc, root, order, prefix)?;
         self.if_usable()
     }
 }

@@ -13,6 +13,7 @@ ghost use Rattle.page_files.specs.Held.{Rests, StandsOn, Writes};
 ghost use Rattle.page_files.specs.Writes.{CommitsAtMost, EditsTree, FailsToWrite, Forgets, PlacesRow};
 
 use crate::files::PageFile;
+use crate::edits;
 use sqlite_disk::Disk;
 use sqlite_pages::Error;
 use sqlite_trees::store::Shape;
@@ -32,7 +33,7 @@ impl<D: Disk> PageFile<D> {
         ensures usable { OnOk result (IsUsable self.new) }
         ensures keeps { Keeps (pools.state self.old.pool) (pools.state self.new.pool) }
     {
-        crate::edits::put(&mut self.pool, &mut self.scratch, root, rowid, fields)?;
+        edits::put(&mut self.pool, &mut self.scratch, root, rowid, fields)?;
         self.if_usable()
     }
 
@@ -46,7 +47,7 @@ impl<D: Disk> PageFile<D> {
         ensures usable { OnOk result (IsUsable self.new) }
         ensures keeps { Keeps (pools.state self.old.pool) (pools.state self.new.pool) }
     {
-        crate::edits::delete(&mut self.pool, &mut self.scratch, root, rowid)?;
+        edits::delete(&mut self.pool, &mut self.scratch, root, rowid)?;
         self.if_usable()
     }
 
@@ -69,7 +70,7 @@ impl<D: Disk> PageFile<D> {
         ensures usable { OnOk result (IsUsable self.new) }
         ensures keeps { Keeps (pools.state self.old.pool) (pools.state self.new.pool) }
     {
-        crate::edits::insert(
+        edits::insert(
             &mut self.pool,
             &mut self.scratch,
             root,
@@ -90,7 +91,7 @@ impl<D: Disk> PageFile<D> {
         ensures usable { OnOk result (IsUsable self.new) }
         ensures keeps { Keeps (pools.state self.old.pool) (pools.state self.new.pool) }
     {
-        crate::edits::remove(&mut self.pool, &mut self.scratch, root, order, entry)?;
+        edits::remove(&mut self.pool, &mut self.scratch, root, order, entry)?;
         self.if_usable()
     }
 

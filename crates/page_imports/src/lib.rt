@@ -1,5 +1,6 @@
-//! A file is put into a store as a run, by the pages of the store's file: no SQL. A call stands within a transaction of
-//! `page_files` that it begins; the caller commits or undoes it.
+//! A file is put into a store as a run: the lines of the tables that it becomes, and how they are written into the pages of
+//! the store's file; no SQL. A call stands within a transaction of `page_files` that it begins; the caller commits or
+//! undoes it.
 #![tactic(auto)]
 
 // The lines of the calls of a file, each a place in its rows (specs/Lines.antt).

@@ -21,7 +21,7 @@ use std::alloc::{AllocError, Global};
 /// The root of `sqlite_schema`, the table that lists the others.
 const SCHEMA_ROOT: u32 = 1;
 
-/// The texts that make the tables, in the order of schema 2: src/making.rt of `store_schema` runs them, and SQL
+/// The texts that make the tables, in the order of schema 2: src/making.rt of `prof_store` runs them, and SQL
 /// keeps them as they are.
 const TEXTS: [&str; 11] = [
     "CREATE TABLE meta (id INTEGER PRIMARY KEY CHECK (id = 1), schema INTEGER NOT NULL, next_run INTEGER NOT NULL) STRICT",

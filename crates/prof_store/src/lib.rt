@@ -1,5 +1,6 @@
-//! The store of a SQLite database: made, opened, and brought up from version 1. Its rows are asked for and changed by the pages of
-//! its file (`page_runs`).
+//! The store of a SQLite database: the schema of its tables, what they hold as plain lists, what each SQL text makes of them
+//! and what their columns may hold; and how it is made, opened, and brought up from version 1, each in one transaction. Its
+//! rows are asked for and changed by the pages of its file (`page_runs`).
 #![tactic(auto)]
 
 // Whole numbers that a column can hold.
@@ -36,8 +37,6 @@ pub use moving::migrate;
 pub use plain_tables::{StoreError, is_group_name, is_label};
 pub use sqlite::Alter;
 pub use store::Store;
-pub use crate::errors::OpenError;
-pub use crate::plain_tables::StoreError;
 pub use table_rows::{
     CoefRow, DerivedRow, EventRow, HeadRows, HeldStack, RunRow, StoredCall, StoredCell, StoredStack,
 };

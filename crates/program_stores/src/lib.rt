@@ -1,4 +1,5 @@
-//! The program: the store at a path worked over, alone or beside others, or served, as the words of a command line say.
+//! The program: the store at a path worked over, alone or beside others, or served, as the words of a command line
+//! say; each answer printed as it is known.
 #![tactic(auto)]
 
 // Does a job over the store at a path beside others, who may write it meanwhile.

@@ -1,5 +1,5 @@
 //! What a store tells of its runs and groups, from lists of rows that were read whole: the tables that are
-//! small, whatever the size of the runs. No database, no file.
+//! small, whatever the size of the runs; names by their numbers, heads and rows, from their lines. No database, no file.
 #![tactic(auto)]
 
 // The rows of a run's calls, made of their lines (specs/HeldCalls.antt).

@@ -1,4 +1,5 @@
-//! Which runs of a store a selection names, and how often their events count in the one that is asked.
+//! Which runs of a store a selection names, and how often their events count in the one that is asked; their cells, with
+//! names in place; and what these cost, summed by the numbers of names.
 #![tactic(auto)]
 
 // Adds runs one after another (specs/Added.antt).

@@ -1,12 +1,12 @@
-//! What opens the store at a path: how long others are waited for, what is said of one that is not opened, and the traits of
-//! what opens it, or its files, and makes it.
+//! What opens the store at a path: how long others are waited for, what is said of one that is not opened, the traits of what
+//! opens it, or its files, and makes it; and its files where they are only read, opened beside others who may write them.
 #![tactic(auto)]
 
 // Where an answer is printed, once it is known to be that of one commit.
 mod answers;
 // The bytes of a file, held in memory.
 mod bytes;
-// A disk of which the one below is only read (specs/Shown.antt).
+// A disk of which the one below is only read (specs/HeldShown.antt).
 mod disk;
 // The file of either kind (specs/Either.antt).
 mod either;

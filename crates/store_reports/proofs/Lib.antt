@@ -4,3 +4,6 @@ mod CompareLemmas
 mod MergeLemmas
 mod CellLemmas
 mod ShownLemmas
+mod AnnotateLemmas
+mod CsvLemmas
+mod FoldedLemmas

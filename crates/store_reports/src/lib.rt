@@ -1,5 +1,5 @@
-//! Reports over a store: questions of costs by key, of differences and of what files state, answered over the
-//! runs that a selection names. The answers are those of the files: the rows of these runs sum to their
+//! Reports and exports over a store: questions of costs by key, of differences, of what files state and of the lines of
+//! a source, CSV and folded texts, answered over the runs that a selection names. The answers are those of the files: the rows of these runs sum to their
 //! records.
 #![tactic(auto)]
 
