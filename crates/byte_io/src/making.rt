@@ -3,10 +3,10 @@ ghost use Rattle.std.specs.Prelude.{◌≡◌, ◌+◌, ◌++◌, ◌≤◌, ◌
 ghost use Rattle.byte_io.specs.Escapes.{escaped};
 ghost use Rattle.byte_io.specs.Written.{GoesOn, written};
 
+use crate::escapes::push_escaped;
 use crate::parts::{Part, Printed};
 use crate::texts::SharedText;
 use crate::writers::TextWriter;
-use crate::escapes::push_escaped;
 use std::alloc::{AllocError, Global};
 use std::collections::BTreeMap;
 use std::mem;

@@ -4,8 +4,8 @@ ghost use Rattle.cost_exports.specs.Pieces.{IsCut, IsOn, IsOut};
 ghost use Rattle.cost_exports.specs.Views.{HasWritten};
 ghost use Rattle.cost_exports.specs.declared.csv_pieces.Unwritten.TheVariants.{Memory};
 
-use csv::{Writer, WriterBuilder};
 use byte_io::TextSink;
+use csv::{Writer, WriterBuilder};
 use std::alloc::{AllocError, Global};
 use std::io::ErrorKind;
 use std::{io, mem};

@@ -13,10 +13,10 @@ use crate::csv_pieces::{Pieces, Unwritten, out_of_memory};
 use crate::held_texts::{CountedText, HeldText};
 use crate::line_costs::LineCosts;
 use crate::places::Places;
+use byte_io::TextSink;
 use cg_text::ListVec;
 use csv::Writer;
 use itoa::Buffer;
-use byte_io::TextSink;
 use std::alloc::{AllocError, Global};
 
 /// Writes a row. Its fields are as many in each row, so memory is the only refusal.

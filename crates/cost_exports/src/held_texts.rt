@@ -1,8 +1,8 @@
 // Texts that are held, or whose bytes are counted alone, up to a length.
 ghost use Rattle.std.specs.Prelude.{◌≡◌, ◌+◌, ◌++◌, ◌≤◌, [], length};
 
-use cg_text::ListVec;
 use byte_io::TextSink;
+use cg_text::ListVec;
 use std::alloc::Global;
 use std::io;
 use std::io::ErrorKind;

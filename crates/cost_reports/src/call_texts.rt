@@ -9,9 +9,9 @@ use crate::call_reports::CallReport;
 use crate::key_texts::push_last_part;
 use crate::numbers::push_number;
 use crate::rows::CallRow;
+use byte_io::{SharedText, TextWriter};
 use cost_rows::{Key, LentPlace};
 use report_texts::{CallSide, Pair};
-use byte_io::{SharedText, TextWriter};
 use std::alloc::{AllocError, Global};
 
 fn side_name(side: CallSide) -> &'static [u8]

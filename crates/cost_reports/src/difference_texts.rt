@@ -8,9 +8,9 @@ use crate::differences::Difference;
 use crate::key_texts::{push_key_and_event, push_last_part};
 use crate::rows::DifferenceRow;
 use crate::signed::push_signed;
+use byte_io::{SharedText, TextWriter};
 use cost_rows::Key;
 use report_texts::Signed;
-use byte_io::{SharedText, TextWriter};
 use std::alloc::{AllocError, Global};
 
 /// Adds a difference.

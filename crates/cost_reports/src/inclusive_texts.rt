@@ -5,8 +5,8 @@ ghost use Rattle.byte_io.specs.Written.{GoesOn};
 
 use crate::inclusives::InclusiveReport;
 use crate::key_texts::{push_rows, push_sum};
-use cost_rows::Key;
 use byte_io::{SharedText, TextWriter};
+use cost_rows::Key;
 use std::alloc::{AllocError, Global};
 
 /// Adds of which event the costs are.

@@ -13,8 +13,8 @@ use crate::key_reports::Report;
 use crate::numbers::push_number;
 use crate::percents::push_percent;
 use crate::rows::Row;
-use cost_rows::{Key, LentPlace};
 use byte_io::{SharedText, TextWriter};
+use cost_rows::{Key, LentPlace};
 use std::alloc::{AllocError, Global};
 
 fn key_name(key: Key) -> &'static [u8]

@@ -1,6 +1,6 @@
 // What commands are answered.
-use cg_text::{Fault, ListVec};
 use byte_io::SharedText;
+use cg_text::{Fault, ListVec};
 
 /// A sum over all runs that would pass 2^63-1.
 #[derive(Drop)]

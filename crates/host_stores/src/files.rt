@@ -9,12 +9,15 @@ ghost use Rattle.store_paths.specs.Shown.{ShowImage};
 ghost use Rattle.host_stores.specs.Files.{AreUntouched};
 
 use crate::hosts::Host;
-use store_paths::{EitherDisk, FileOpener, NotOpened, Patience, ReadOnly, Standing, Unopened, Unread, as_one, as_other, has_stood, other_of, read_only};
 use prof_store::OpenError;
 use sqlite_disk::{Disk, Files as DiskFiles, Memory, Start};
 use std::alloc::Global;
 use std::marker::PhantomData;
 use std::rt::HostRuntime;
+use store_paths::{
+    EitherDisk, FileOpener, NotOpened, Patience, ReadOnly, Standing, Unopened, Unread, as_one,
+    as_other, has_stood, other_of, read_only,
+};
 
 /// The longest log that is read whole into memory, in bytes: 64 MiB. A longer one is recovered in its file.
 const LONGEST_LOG: usize = 0x400_0000;

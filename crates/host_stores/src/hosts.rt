@@ -5,12 +5,14 @@ ghost use Rattle.host_stores.specs.Files.{AreUntouched};
 
 use crate::causes::at_path;
 use crate::openings::Openings;
-use store_paths::{FileOf, NotOpened, Patience, Standing, TRIES, Unopened, is_no_file, open_to_look, open_to_read};
 use prof_store::OpenError;
 use sqlite_disk::{Disk, Files, Start};
 use sqlite_std_file::{FileFrom, OpenError as PathError};
 use std::marker::PhantomData;
 use std::rt::HostRuntime;
+use store_paths::{
+    FileOf, NotOpened, Patience, Standing, TRIES, Unopened, is_no_file, open_to_look, open_to_read,
+};
 
 /// Opens files of a host. What is written over any host knows no type of its files: a call at such a type takes a third of a
 /// minute to prove.

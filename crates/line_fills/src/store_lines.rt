@@ -4,9 +4,9 @@ ghost use Rattle.sqlite_value.specs.declared.value.Value.TheVariants.{Int};
 ghost use Rattle.sqlite_value.specs.Value.{owned};
 
 use crate::lines::PageLine;
+use prof_store::{CoefRow, ColumnInt, DerivedRow, EventRow, StoredStack};
 use sqlite_value::value::ValueRef;
 use std::cmp::Ordering;
-use prof_store::{CoefRow, ColumnInt, DerivedRow, EventRow, StoredStack};
 
 /// A number of 32 bits as a value.
 #[inline(always)]

@@ -12,8 +12,8 @@ ghost use Rattle.page_files.specs.Files.{files_of, pages_of, IsFaithful, IsUsabl
 ghost use Rattle.page_files.specs.Held.{Rests, StandsOn, Writes};
 ghost use Rattle.page_files.specs.Writes.{CommitsAtMost, EditsTree, FailsToWrite, Forgets, PlacesRow};
 
-use crate::files::PageFile;
 use crate::edits;
+use crate::files::PageFile;
 use sqlite_disk::Disk;
 use sqlite_pages::Error;
 use sqlite_trees::store::Shape;

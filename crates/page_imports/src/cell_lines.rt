@@ -12,10 +12,10 @@ use crate::run_names::{RunNames, name_value};
 use cost_rows::{CellPlace, CellSum, FileRows};
 use line_fills::PageLine;
 use plain_tables::StoreError;
+use prof_store::{column_int_of, small_of};
 use sqlite_value::value::ValueRef;
 use std::alloc::Global;
 use std::cmp::Ordering;
-use prof_store::{column_int_of, small_of};
 
 impl PageLine for CellLine<'_> {
     ghost use Rattle.prof_store.specs.Tables.{cell_columns};

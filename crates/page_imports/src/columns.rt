@@ -3,10 +3,10 @@ ghost use Rattle.std.specs.Prelude.{◌≡◌, drop, IfOk};
 ghost use Rattle.prof_store.specs.Lines.{run_row};
 ghost use Rattle.prof_store.specs.Tables as tables;
 
+use prof_store::RunRow;
 use sqlite_value::row::Row;
 use sqlite_value::value::ValueRef;
 use std::alloc::{AllocError, Global};
-use prof_store::RunRow;
 
 /// The row that has the next number.
 pub(crate) fn meta_columns(alloc: Global, next: u32) -> Result<Row, AllocError>

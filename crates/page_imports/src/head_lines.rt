@@ -9,10 +9,10 @@ ghost use Rattle.prof_store.specs.Lines.{event_row, derived_row, coef_row};
 use cg_formulas::FileHead;
 use cg_text::ListVec;
 use cost_rows::FileTotals;
-use std::alloc::{AllocError, Global};
 use prof_store::{
     CoefRow, ColumnInt, DerivedRow, EventRow, HeadRows, StoreError, column_int_of, small_of,
 };
+use std::alloc::{AllocError, Global};
 
 /// Adds a line at the end.
 pub(crate) fn add<T: Drop>(lines: &mut Vec<T>, line: T) -> Result<(), AllocError>

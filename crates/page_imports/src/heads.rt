@@ -18,10 +18,10 @@ use line_fills::fill;
 use page_files::PageFile;
 use page_places::{IndexPlace, Place, StoreRoots, error_of_row};
 use plain_tables::StoreError;
+use prof_store::{CoefRow, DerivedRow, EventRow, HeadRows, RunRow};
 use row_writes::{insert, replace};
 use sqlite_disk::Disk;
 use std::alloc::Global;
-use prof_store::{CoefRow, DerivedRow, EventRow, HeadRows, RunRow};
 
 /// Sets the number of the next run.
 fn put_next<D: Disk>(

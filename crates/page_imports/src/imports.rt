@@ -16,18 +16,18 @@ ghost use Rattle.page_imports.specs.Causes.{CanImport, FailsWithout};
 ghost use Rattle.page_imports.specs.Imports.{Imports, IsNew, reaches};
 ghost use Rattle.page_imports.specs.Steps.{Begins};
 
+use crate::head_lines::head_rows;
 use crate::heads::put_head;
 use crate::rows::put_rows;
 use page_files::PageFile;
 use page_places::{StoreRoots, find_roots};
 use plain_tables::StoreError;
+use prof_store::{RunRow, column_int_of, number_of_kind};
 use profile_records::Kind;
-use crate::head_lines::head_rows;
 use run_lists::RunLists;
 use run_stores::SummedFile;
 use sqlite_disk::Disk;
 use std::alloc::Global;
-use prof_store::{RunRow, column_int_of, number_of_kind};
 
 /// Whether a run has this number or a greater one.
 fn is_reached(lists: &RunLists, number: u32) -> bool

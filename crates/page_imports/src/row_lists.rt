@@ -8,8 +8,8 @@ ghost use Rattle.prof_store.specs.Lines.{stack_row};
 use crate::file_lines::stack_of;
 use crate::head_lines::add;
 use cost_rows::FileRows;
-use std::alloc::Global;
 use prof_store::{StoreError, StoredStack};
+use std::alloc::Global;
 
 /// The lines of the counts of stacks. `Store` where a count is too great for its column.
 pub fn stack_lines(

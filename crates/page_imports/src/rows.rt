@@ -14,13 +14,13 @@ ghost use Rattle.page_imports.specs.Steps.{Makes, row_tables};
 use crate::call_lines::call_lines;
 use crate::cell_lines::cell_lines;
 use crate::names::number_names;
+use crate::row_lists::stack_lines;
 use crate::run_names::RunNames;
 use cost_rows::FileRows;
 use line_fills::fill;
 use page_files::PageFile;
 use page_places::{IndexPlace, Place, StoreRoots};
 use plain_tables::StoreError;
-use crate::row_lists::stack_lines;
 use sqlite_disk::Disk;
 use std::alloc::Global;
 

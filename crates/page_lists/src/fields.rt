@@ -6,11 +6,11 @@ ghost use Rattle.plain_tables.specs.Labels.{IsLabel};
 ghost use Rattle.profile_records.specs.Kinds.{kind_number};
 ghost use Rattle.prof_store.specs.Tables.{number, number_or_null, text_or_null};
 
+use prof_store::{ColumnInt, OutOfForm, StoreError, is_label};
 use profile_records::Kind;
 use sqlite_record::fields::Fields;
 use sqlite_value::value::ValueRef;
 use std::alloc::Global;
-use prof_store::{ColumnInt, OutOfForm, StoreError, is_label};
 
 /// A whole number from 0 on, below 2^32.
 pub fn number_in(fields: &mut Fields<'_>) -> Result<u32, OutOfForm>

@@ -7,8 +7,11 @@ ghost use Rattle.run_lists.specs.HeadLines.{derived_place, entry_of_coef, entry_
 ghost use Rattle.run_lists.specs.Listed.{AreListed, coef_row, derived_row, event_row};
 
 use cg_formulas::FileHead;
-use run_lists::{HeadCoef, HeadDerived, HeadEvent, ListedCoef, ListedDerived, ListedEvent, ListedRun, RunLists, head_in};
 use plain_tables::StoreError;
+use run_lists::{
+    HeadCoef, HeadDerived, HeadEvent, ListedCoef, ListedDerived, ListedEvent, ListedRun, RunLists,
+    head_in,
+};
 use std::alloc::Global;
 
 /// Whether a run of this number is listed.

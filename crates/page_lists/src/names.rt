@@ -18,13 +18,13 @@ use crate::listing::all_rows;
 use crate::records::FromRecord;
 use crate::small::key_of;
 use crate::some_rows::rows_among;
-use run_lists::{HeldName, HeldNames};
 use page_files::PageFile;
 use plain_tables::StoreError;
+use prof_store::OutOfForm;
+use run_lists::{HeldName, HeldNames};
 use sqlite_disk::Disk;
 use sqlite_record::fields::Fields;
 use std::alloc::Global;
-use prof_store::OutOfForm;
 
 /// A number and its name, where the name lies in the record.
 pub(crate) fn name_in(rowid: i64, payload: &[u8]) -> Result<(u32, &[u8]), OutOfForm>

@@ -8,11 +8,11 @@ use crate::fields::{
 };
 use crate::records::FromRecord;
 use plain_tables::StoreError;
+use prof_store::OutOfForm;
 use run_lists::{ListedCoef, ListedDerived, ListedEvent, ListedGroup, ListedMember, ListedRun};
 use run_stores::RunEntry;
 use sqlite_record::fields::Fields;
 use std::alloc::Global;
-use prof_store::OutOfForm;
 
 /// A rowid that is a key: a whole number from 0 on, below 2^32.
 pub(crate) fn key_of(rowid: i64) -> Result<u32, OutOfForm>

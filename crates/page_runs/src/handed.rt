@@ -9,13 +9,13 @@ ghost use Rattle.prof_store.specs.Tables.{number, cell_columns, arc_columns, sta
 use crate::kept::Gathered;
 use crate::run_rows::{Added, LineSink};
 use cost_rows::CellRow;
-use run_lists::{CallLines, CellLines, StackLines};
 use page_lists::{copied_in, end_of, number_in, whole_in};
 use plain_tables::StoreError;
+use prof_store::{HeldStack, OutOfForm, StoredCall, StoredCell};
+use run_lists::{CallLines, CellLines, StackLines};
 use run_stores::{CallSink, CellSink, StackRowSink};
 use sqlite_record::fields::Fields;
 use std::alloc::Global;
-use prof_store::{HeldStack, OutOfForm, StoredCall, StoredCell};
 
 /// The cell of a run that a record says behind the run.
 fn read_cell(run: u32, mut fields: Fields<'_>) -> Result<StoredCell, OutOfForm>

@@ -5,9 +5,9 @@ ghost use Rattle.prof_store.specs.Lines.{cell_row};
 ghost use Rattle.run_stores.specs.Walks.{cell_numbers};
 
 use cost_rows::CellRow;
+use prof_store::StoredCell;
 use std::alloc::Global;
 use std::collections::BTreeMap;
-use prof_store::StoredCell;
 
 /// How many cells a small run has at most, 256 KB.
 const SMALL_RUN: usize = 4096;

@@ -24,7 +24,6 @@ use crate::run_rows::{RunTable, each_line};
 use cg_formulas::FileHead;
 use cg_text::ListVec;
 use cost_rows::FileTotals;
-use run_lists::{CallLines, CellLines, HeldNames, RunLists, StackLines, is_name};
 use page_files::PageFile;
 use page_lists::{
     head_of, holds_names, names_among, names_under, open_file, open_store, read_lists,
@@ -32,6 +31,7 @@ use page_lists::{
 use page_places::{StoreRoots, error_of, find_name};
 use plain_tables::StoreError;
 use profile_records::Kind;
+use run_lists::{CallLines, CellLines, HeldNames, RunLists, StackLines, is_name};
 use run_stores::{
     CallSink, CellSink, GroupEntry, RunEntry, RunStore, StackRowSink, StoreState, SummedFile,
 };

@@ -7,10 +7,10 @@ ghost use Rattle.histories.specs.declared.answers.Answer as given;
 ghost use Rattle.prof_http.specs.Replies as spec;
 
 use crate::sending::{send_pieces, send_sums};
+use byte_io::SharedText;
 use cost_exports::CellSums;
 use histories::{Answer, Refusal};
 use http_exchange::{Failing, RESPONSE_ROOM, StatusCode, Stream, put_head, send};
-use byte_io::SharedText;
 use std::alloc::{AllocError, Global};
 use warehouse::line_of;
 

@@ -10,10 +10,10 @@ ghost use Rattle.http_exchange.specs.Streams.{Written, Writes};
 ghost use Rattle.prof_http.specs.Replies.{IsReplySent, IsSentAs};
 
 use crate::replies::{Exchange, send_answer};
+use byte_io::{SharedText, TextSink};
 use cost_exports::{CellSums, Unwritten, csv_length, write_csv};
 use histories::{Answer, Refusal};
 use http_exchange::{RESPONSE_ROOM, StatusCode, Stream, put_head, write_all};
-use byte_io::{SharedText, TextSink};
 use std::alloc::Global;
 use std::io;
 use std::io::ErrorKind;

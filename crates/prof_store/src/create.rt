@@ -7,10 +7,10 @@ ghost use Rattle.prof_store.specs.Created.{Creates};
 ghost use Rattle.prof_store.specs.Shown.{shown, IsFaithful};
 ghost use Rattle.prof_store.specs.declared.errors.OpenError.TheVariants as ends;
 
-use crate::store::Store;
-use sqlite::{Alter, Connection};
 use crate::errors::OpenError;
 use crate::making::create_tables;
+use crate::store::Store;
+use sqlite::{Alter, Connection};
 
 impl<S: Alter> Store<S> {
     /// Makes a new store, in one transaction, in a database that has no table. `WrongSchema` says that it

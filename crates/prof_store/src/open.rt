@@ -11,11 +11,11 @@ ghost use Rattle.prof_store.specs.Shown.{shown, IsFaithful};
 ghost use Rattle.prof_store.specs.declared.open.Version.TheVariants as versions;
 ghost use Rattle.prof_store.specs.declared.errors.OpenError.TheVariants as ends;
 
+use crate::errors::{OpenError, error_of};
+use crate::moving::migrate;
 use crate::store::Store;
 use sqlite::types::ValueRef;
 use sqlite::{Alter, Connection, Error, Row};
-use crate::errors::{OpenError, error_of};
-use crate::moving::migrate;
 
 /// The versions of tables that this program opens.
 enum Version {

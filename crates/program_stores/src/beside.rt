@@ -5,16 +5,16 @@ ghost use Rattle.program_stores.specs.Theorem.{WasDone};
 ghost use Rattle.program_stores.specs.declared.jobs.Job.TheVariants as jobs;
 
 use crate::jobs::{Done, Job, Outputs};
+use crate::session::work_over;
 use crate::telling::tell_remarks;
 use command_line::WordsCommand;
-use store_paths::{IfStands, Opener, Standing, Unread, is_no_file};
 use requests::Command;
 use run_stores::RunStore;
-use crate::session::work_over;
 use std::fs;
 use std::fs::File;
 use std::io::Read;
 use std::rt::HostRuntime;
+use store_paths::{IfStands, Opener, Standing, Unread, is_no_file};
 
 /// Whether a command changes nothing, and what it reads beside the store can be read once more: a pipe cannot. No
 /// guarantee: of files the checker knows nothing.

@@ -4,6 +4,7 @@ ghost use Rattle.program_stores.specs.Asked.{IsAskedBy, IsLentBy};
 
 use crate::jobs::{Done, Job, Outputs};
 use crate::telling::tell_person;
+use crate::totals::print_total;
 use crate::works::work_at;
 use anyhow::Result;
 use cg_text::ListVec;
@@ -15,7 +16,6 @@ use file_reading::{
 use prof_http::Service;
 use profile_records::Kind;
 use run_stores::RunStore;
-use crate::totals::print_total;
 use std::alloc::{AllocError, Global};
 use std::io::ErrorKind;
 use std::process::ExitCode;

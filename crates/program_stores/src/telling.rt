@@ -1,8 +1,8 @@
 // What a person is told on a terminal, beside what is printed.
 
+use crate::remarks::Remark;
 use byte_io::push_escaped;
 use file_reading::finding_line;
-use crate::remarks::Remark;
 use std::io::IsTerminal;
 use std::rt::HostRuntime;
 

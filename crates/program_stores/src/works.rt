@@ -5,15 +5,15 @@ ghost use Rattle.program_stores.specs.Theorem.{WasDone};
 
 use crate::beside::{commands_beside, done_beside, store_beside_at};
 use crate::jobs::{Done, Job, Outputs};
-use crate::telling::{tell_person, tell_remarks};
-use store_paths::{IfStands, NotOpened, Opener, Patience, TRIES, Unread};
-use prof_http::serve_over;
-use run_stores::RunStore;
 use crate::session::work_over;
+use crate::telling::{tell_person, tell_remarks};
+use prof_http::serve_over;
+use prof_store::OpenError;
+use run_stores::RunStore;
 use std::fs::File;
 use std::io::Read;
 use std::rt::HostRuntime;
-use prof_store::OpenError;
+use store_paths::{IfStands, NotOpened, Opener, Patience, TRIES, Unread};
 
 /// So often a job is tried beside others, even where that takes longer than patience lasts.
 const LEAST_TRIES: u32 = 3;

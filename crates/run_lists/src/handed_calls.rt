@@ -7,10 +7,10 @@ ghost use Rattle.run_lists.specs.HeldCalls.{HasTakenCallLines, HasTakenCalls};
 
 use crate::call_rows::{add_part, call_edge, filled, is_part_of};
 use cg_text::ListVec;
+use prof_store::{OutOfForm, StoreError, StoredCall};
 use run_stores::CallSink;
 use std::alloc::Global;
 use std::mem;
-use prof_store::{OutOfForm, StoreError, StoredCall};
 
 /// Refuses a row of calls whose first line is not their count, part 0.
 fn check_first(line: &StoredCall) -> Result<(), OutOfForm>

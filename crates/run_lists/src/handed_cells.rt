@@ -6,8 +6,8 @@ ghost use Rattle.run_stores.specs.Walks.{CellsFoldTo, cell_numbers};
 ghost use Rattle.run_lists.specs.HeldCells.{HasTakenCellLines};
 
 use cost_rows::CellRow;
-use run_stores::CellSink;
 use prof_store::{OutOfForm, StoreError, StoredCell};
+use run_stores::CellSink;
 
 /// The cell of a line, of one of so many events.
 fn cell_row(line: &StoredCell, events: usize) -> Result<CellRow<u32>, OutOfForm>

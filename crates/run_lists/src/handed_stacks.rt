@@ -7,8 +7,8 @@ ghost use Rattle.prof_store.specs.Lines.{held_stack};
 ghost use Rattle.run_lists.specs.HeldStacks.{HasTakenStackLines};
 
 use cost_rows::StackRow;
-use run_stores::StackRowSink;
 use prof_store::{HeldStack, StoreError};
+use run_stores::StackRowSink;
 
 /// A stack that is held, as it is lent.
 fn lent_stack(line: &HeldStack) -> StackRow<&[u8]>

@@ -7,8 +7,8 @@ ghost use Rattle.run_lists.specs.HeadLines.{event_place, event_total, States, de
 use crate::head_lines::{HeadCoef, HeadDerived, HeadEvent};
 use cg_formulas::{FileHead, Flat};
 use cg_text::{ListVec, are_distinct};
-use std::alloc::Global;
 use prof_store::StoreError;
+use std::alloc::Global;
 
 /// A copy of a name whose place is the next.
 fn name_at(alloc: Global, place: u32, next: usize, name: &[u8]) -> Result<ListVec<u8>, StoreError>

@@ -6,9 +6,9 @@ ghost use Rattle.run_stores.specs.Book.{name_of, no_name, IsHeld};
 ghost use Rattle.run_stores.specs.Names.{IsNumberOf};
 ghost use Rattle.run_lists.specs.NameRows.{name_row, IsNameAt};
 
+use prof_store::OutOfForm;
 use run_stores::NameTable;
 use std::marker::Model;
-use prof_store::OutOfForm;
 
 /// A name and its number.
 #[derive(Drop)]

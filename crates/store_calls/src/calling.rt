@@ -15,12 +15,12 @@ use crate::kept_calls::KeepsCalls;
 use crate::kept_rows::KeptCalls;
 use crate::known_names::is_in_runs;
 use crate::named_calls::{numbers_of, sums_named};
+use byte_io::SharedText;
 use cost_reports::{CallSide, CallSums, calls};
 use histories::{Answer, Refusal};
 use requests::Selection;
 use run_stores::{RunStore, StoreError};
 use selected_runs::{Counted, RunFold, event_runs, fold_runs};
-use byte_io::SharedText;
 use std::alloc::{AllocError, Global};
 
 /// Keeps the calls of runs that are of the function that is asked.

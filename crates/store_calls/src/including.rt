@@ -15,13 +15,13 @@ ghost use Rattle.store_calls.specs.InclusiveRuns.{AddsHeld, AreRowsCounted, AreR
 
 use crate::inclusive_parts::InclusiveParts;
 use crate::inclusive_sums::InclusiveRows;
+use byte_io::SharedText;
 use cost_reports::{InclusiveSums, inclusive};
 use histories::Answer;
 use profile_records::Kind;
 use requests::Selection;
 use run_stores::{NameTable, RunStore, StoreError};
 use selected_runs::{Counted, RunFold, event_runs, fold_runs};
-use byte_io::SharedText;
 use std::alloc::{AllocError, Global};
 
 /// Adds the self costs and the calls of a Callgrind run.

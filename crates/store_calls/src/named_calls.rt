@@ -9,9 +9,9 @@ use crate::asked_functions::AskedFunction;
 use crate::kept_rows::{KeptCall, KeptCalls};
 use cost_reports::CallSums;
 use cost_rows::ArcRow;
-use selected_runs::held_name;
 use report_texts::CallSide;
 use run_stores::{NameTable, StoreError};
+use selected_runs::held_name;
 use std::alloc::{AllocError, Global};
 
 /// The numbers of the names of the functions on the other side of calls: a number may come more than once.

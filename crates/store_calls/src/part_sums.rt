@@ -15,8 +15,8 @@ use crate::inclusive_parts::InclusiveParts;
 use cg_text::ListVec;
 use cost_reports::{FrameSums, InclusiveSums};
 use cost_rows::{ArcRow, CellRow, Key, StackRow};
-use selected_runs::{NumberSums, is_within};
 use run_stores::{NameTable, StoreError};
+use selected_runs::{NumberSums, is_within};
 use std::alloc::{AllocError, Global};
 
 impl InclusiveParts {

@@ -9,11 +9,11 @@ ghost use Rattle.histories.specs.Answered.{AnswersAsked};
 ghost use Rattle.histories.specs.FromTables.{ShowsText};
 ghost use Rattle.store_commands.specs.Lists.{IsListOfGroups, IsListOfRuns, entry_line, group_entry_line};
 
+use byte_io::SharedText;
 use cg_text::ListVec;
 use histories::Answer;
 use profile_records::Kind;
 use run_stores::{GroupEntry, RunEntry, RunStore, StoreError};
-use byte_io::SharedText;
 use std::alloc::{AllocError, Global};
 
 fn kind_text(kind: Kind) -> &'static str

@@ -4,11 +4,11 @@ ghost use Rattle.store_laws.specs.Pages.{RepresentsCommitted, RepresentsStore};
 
 use page_runs::PageRuns;
 use plain_tables::StoreError;
+use prof_store::error_of;
 use sqlite::{Connection, FileStore};
 use sqlite_disk::Disk;
 use sqlite_pager::Options;
 use std::alloc::Global;
-use prof_store::error_of;
 
 /// Closes a database, and opens the store in it by its pages. What was not committed is rolled back.
 ///

@@ -6,10 +6,13 @@ ghost use Rattle.store_paths.specs.Shown.{HoldsInOrder};
 
 use crate::opening::{changed_by_another, may_be_changed_in, store_in};
 use crate::refusing::{PAGES_TO_READ, unread};
-use store_paths::{FileOpener, NotOpened, Standing, StoreMaker, Unread, has_same_log, has_stood, is_no_file, options_for};
 use page_runs::PageRuns;
 use sqlite_disk::Disk;
 use std::rt::HostRuntime;
+use store_paths::{
+    FileOpener, NotOpened, Standing, StoreMaker, Unread, has_same_log, has_stood, is_no_file,
+    options_for,
+};
 
 /// A store that was opened beside others, if its log is still the one that was read.
 fn kept_beside<D: Disk + Drop>(

@@ -4,12 +4,14 @@ ghost use Rattle.store_paths.specs.Shown.{HoldsInOrder};
 use crate::looking::{beside, look_beside};
 use crate::opening::{store_in, store_to_change_in};
 use crate::refusing::PAGES_TO_READ;
-use store_paths::{FileOpener, NotOpened, Opener, Patience, Standing, StoreMaker, Unread, options_for};
 use page_runs::PageRuns;
 use plain_tables::StoreError;
 use sqlite_disk::Disk;
 use std::marker::PhantomData;
 use std::rt::HostRuntime;
+use store_paths::{
+    FileOpener, NotOpened, Opener, Patience, Standing, StoreMaker, Unread, options_for,
+};
 
 /// How many are kept where a store is changed or served, 2 MB, and as many again of those that were written: rows are
 /// appended, but names and their index are written where they fall.

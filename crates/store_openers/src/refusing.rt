@@ -1,12 +1,12 @@
 // Why the store at a path is not read beside others, as its database says: it is opened by SQL over files that are only read.
 ghost use Rattle.std.specs.Prelude.{IsTrue};
 
-use store_paths::{FileOpener, Standing, StoreMaker, Unread, has_stood, options_for};
 use plain_tables::StoreError;
 use prof_store::OpenError;
 use sqlite_disk::Files;
 use sqlite_pager::Options;
 use std::rt::HostRuntime;
+use store_paths::{FileOpener, Standing, StoreMaker, Unread, has_stood, options_for};
 
 /// How many pages are kept in memory where a store is only read: each is read once, and more would only have to be made.
 pub(crate) const PAGES_TO_READ: usize = 100;

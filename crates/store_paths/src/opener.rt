@@ -6,8 +6,8 @@ ghost use Rattle.sqlite_wal.specs.Recovery.{Image};
 ghost use Rattle.store_paths.specs.Shown.{ShowImage};
 
 use crate::errors::NotOpened;
-use crate::patience::Patience;
 use crate::opening::Standing;
+use crate::patience::Patience;
 use sqlite_disk::{Disk, Files, Memory};
 use sqlite_pager::Options;
 use std::alloc::Global;

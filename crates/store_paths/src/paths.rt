@@ -3,10 +3,10 @@ ghost use Rattle.std.specs.Prelude.{◌↔◌, IsTrue, IfOk};
 ghost use Rattle.store_paths.specs.Paths.{IsNoFile, KeepsPages};
 
 use crate::errors::NotOpened;
+use prof_store::OpenError;
 use sqlite_pager::Options;
 use std::hash::{BuildHasher, RandomState};
 use std::rt::HostRuntime;
-use prof_store::OpenError;
 
 /// Whether a path is one that SQLite takes for something else than a file.
 pub fn is_no_file(path: &str) -> bool

@@ -6,8 +6,8 @@ ghost use Rattle.store_paths.specs.Opened.{RepresentsHeld};
 
 use crate::errors::NotOpened;
 use crate::opener::Unread;
-use crate::patience::Patience;
 use crate::opening::Standing;
+use crate::patience::Patience;
 use plain_tables::StoreError;
 use run_stores::RunStore;
 use std::rt::HostRuntime;

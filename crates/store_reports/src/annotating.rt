@@ -12,12 +12,12 @@ ghost use Rattle.histories.specs.Answered.{AnswersAsked};
 ghost use Rattle.store_reports.specs.Annotated.{IsAnnotated, annotated_over, numbered_from};
 
 use crate::sinks::LineRows;
+use byte_io::SharedText;
 use cost_exports::{LineSums, annotate};
 use histories::{Answer, Refusal};
 use requests::Selection;
 use run_stores::{RunStore, StoreError};
 use selected_runs::{Counted, RunFold, event_runs, fold_runs};
-use byte_io::SharedText;
 use std::alloc::{AllocError, Global};
 
 /// Adds the cells of a run, by the number of the file's name. Those of a run without the event cost nothing, but

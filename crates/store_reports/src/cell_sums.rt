@@ -8,8 +8,8 @@ ghost use Rattle.run_stores.specs.Calls.{Told, AsksIfOpen};
 ghost use Rattle.store_reports.specs.CellSums.{AreOfCells};
 
 use cost_rows::CellRow;
-use selected_runs::{NamedCellSink, each_named_cell};
 use run_stores::{RunStore, StoreError};
+use selected_runs::{NamedCellSink, each_named_cell};
 use std::alloc::Global;
 
 /// What cells cost, by the column of their event.

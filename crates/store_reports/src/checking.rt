@@ -10,6 +10,7 @@ ghost use Rattle.histories.specs.Answered.{AnswersAsked};
 ghost use Rattle.store_reports.specs.Checked.{IsChecked, IsVerified, AreChecked};
 
 use crate::cell_sums::check_cells;
+use byte_io::SharedText;
 use cg_formulas::FileHead;
 use cg_text::ListVec;
 use cost_reports::verify;
@@ -17,7 +18,6 @@ use histories::Answer;
 use requests::Selection;
 use run_stores::{RunStore, StoreError};
 use selected_runs::{RunFold, fold_runs, select_runs};
-use byte_io::SharedText;
 use std::alloc::{AllocError, Global};
 
 /// Adds the lines of a run: the sums of its events beside what its head states.

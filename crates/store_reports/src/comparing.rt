@@ -12,13 +12,15 @@ ghost use Rattle.histories.specs.Answered.{AnswersAsked, has_changed};
 ghost use Rattle.store_reports.specs.Compared.{AnswersDifference, AreBaselineIn, AreComparedIn, IsSubtracted, difference_over, named_sums};
 
 use crate::merging::number_runs;
+use byte_io::SharedText;
 use cost_reports::{LentSums, subtract};
 use cost_rows::Key;
 use histories::{Answer, Refusal};
-use selected_runs::{Counted, NumberSums, Numbers, count_runs, have_event, name_text, one_run, select_runs};
 use requests::Selection;
 use run_stores::{NameTable, RunStore, StoreError};
-use byte_io::SharedText;
+use selected_runs::{
+    Counted, NumberSums, Numbers, count_runs, have_event, name_text, one_run, select_runs,
+};
 use std::alloc::{AllocError, Global};
 
 /// The baseline of a group, as a selection of one run.

@@ -14,12 +14,12 @@ ghost use Rattle.histories.specs.Answered.{AnswersAsked};
 ghost use Rattle.store_reports.specs.CsvRuns.{AddsRun, AreSums, IsCsv, csv_asked};
 
 use crate::sinks::NamedRows;
+use byte_io::SharedText;
 use cost_exports::{CellSums, csv_text};
 use histories::{Answer, Refusal};
-use selected_runs::{RunFold, each_named_cell, fold_runs, select_runs};
 use requests::Selection;
 use run_stores::{RunStore, StoreError};
-use byte_io::SharedText;
+use selected_runs::{RunFold, each_named_cell, fold_runs, select_runs};
 use std::alloc::{AllocError, Global};
 
 /// Adds the cells of a run, by the names of its events.

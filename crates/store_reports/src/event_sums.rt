@@ -1,7 +1,7 @@
 // The cells of runs, added up by key in the event that is asked.
 use cost_rows::CellRow;
-use selected_runs::{NumberSums, cost_within, times_of};
 use run_stores::{CellSink, StoreError};
+use selected_runs::{NumberSums, cost_within, times_of};
 
 /// Sums by key, and how often each column of the run that is read counts in the event.
 #[derive(Drop)]

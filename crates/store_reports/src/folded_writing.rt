@@ -9,12 +9,12 @@ ghost use Rattle.histories.specs.Answered.{AnswersAsked};
 ghost use Rattle.store_reports.specs.FoldedRuns.{IsFolded, folded_over};
 
 use crate::sinks::StackRows;
+use byte_io::SharedText;
 use cost_exports::{StackSums, folded_text};
 use histories::Answer;
 use requests::Selection;
 use run_stores::{RunStore, StoreError};
 use selected_runs::{RunFold, fold_runs, select_runs};
-use byte_io::SharedText;
 use std::alloc::{AllocError, Global};
 
 /// Adds the stacks of runs with their counts. Callgrind runs have none.

@@ -9,8 +9,8 @@ ghost use Rattle.store_reports.specs.Reported.{numbers_from};
 
 use crate::event_sums::EventSums;
 use cost_rows::Key;
-use selected_runs::{Counted, NumberSums};
 use run_stores::{RunStore, StoreError};
+use selected_runs::{Counted, NumberSums};
 use std::alloc::Global;
 
 /// Adds the cells of a run, each as often as its column counts. One without the event costs nothing.

@@ -20,13 +20,13 @@ ghost use Rattle.selected_runs.specs.declared.counting.Counted.{Counted};
 ghost use Rattle.store_reports.specs.Reported.{AreShown, IsReported, numbers_from, report_over};
 
 use crate::merging::number_runs;
+use byte_io::SharedText;
 use cost_reports::{Cut, by};
 use cost_rows::Key;
 use histories::Answer;
-use selected_runs::{NumberSums, RankedSums, event_runs};
 use requests::Selection;
 use run_stores::{NameTable, RunStore, StoreError};
-use byte_io::SharedText;
+use selected_runs::{NumberSums, RankedSums, event_runs};
 use std::alloc::Global;
 
 /// Of some sums those that a cut can show. Errors: `Memory`; and `Store` where the name of a sum that is left out is

@@ -8,8 +8,8 @@ ghost use Rattle.store_reports.specs.Annotated.{file_cell};
 use cg_text::ListVec;
 use cost_exports::{CellSums, LineSums, StackSums};
 use cost_rows::{CellRow, StackRow};
-use selected_runs::{NamedCellSink, is_within, weighted_within};
 use run_stores::{CellSink, StackRowSink, StoreError};
+use selected_runs::{NamedCellSink, is_within, weighted_within};
 
 /// Whether a number is that of a name, if the name has one.
 fn is_number(number: Option<u32>, other: u32) -> bool

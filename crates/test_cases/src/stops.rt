@@ -2,13 +2,13 @@
 // log, of the database file, or of both. Opened again, they tell what they told before the step or with it, and with it where
 // it was answered as done.
 use crate::changes::{CHANGES, Change};
+use crate::images::{Image, Left, files_of};
+use crate::meters::{Meter, Stops};
 use crate::stores::{DatabaseJob, change_pages, is_done_in, pages_in, told_by_pages, told_by_sql};
 use run_stores::Kind;
 use sqlite_disk::{Disk, Files};
 use std::alloc::Global;
 use std::test::Fail;
-use crate::images::{Image, Left, files_of};
-use crate::meters::{Meter, Stops};
 
 /// How many pages each of `CHANGES` writes at least: of each table with other rows one, and of each of its indexes.
 const PAGES: [u64; 12] = [12, 8, 2, 2, 2, 2, 2, 1, 18, 12, 4, 13];

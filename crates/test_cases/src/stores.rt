@@ -1,5 +1,8 @@
 // Stores in files: made by SQL, opened by their pages. No guarantees: the tests see what the stores tell.
 use crate::changes::{Change, change_rows};
+use crate::disk::Stopping;
+use crate::images::files_of;
+use crate::meters::{Meter, Stops};
 use crate::told::told_by;
 use page_runs::PageRuns;
 use prof_store::Store;
@@ -8,9 +11,6 @@ use sqlite::{Alter, Connection, FileStore};
 use sqlite_disk::{Disk, Files};
 use sqlite_pager::Options;
 use std::alloc::{AllocError, Global};
-use crate::disk::Stopping;
-use crate::images::files_of;
-use crate::meters::{Meter, Stops};
 
 /// How many bytes a file has room for, so that it is never the disk that wants memory.
 const ROOM: usize = 0x8_0000;

@@ -17,7 +17,9 @@ use run_stores::{RunStore, StoreError};
 use std::alloc::Global;
 use store_calls::{calls_answer, inclusive_answer};
 use store_commands::{groups_answer, runs_answer};
-use store_reports::{annotate_answer, by_answer, csv_answer, folded_answer, subtract_answer, verify_answer};
+use store_reports::{
+    annotate_answer, by_answer, csv_answer, folded_answer, subtract_answer, verify_answer,
+};
 
 /// How many bytes a source that is annotated may have.
 const SOURCE_BYTES: u64 = 16_777_216;

@@ -1,62 +1,34 @@
 use Rattle.store_paths.proofs.EitherLemmas.{frozen_one, frozen_other}
 use Rattle.store_paths.proofs.either.EitherDiskDisk.len.Goals as goal
 
-pub returns-in-One-clause-len : goal.returns-in-One-clause-len
-returns-in-One-clause-len g c = rw c.in-One.is c.len.ensures.len
+pub returns-in-One : goal.returns-in-One
+returns-in-One g c =
+    let said = c.len.ensures in
+    rw c.in-One.is (record {
+      len = said.len;
+      faults = said.faults;
+      clean = said.clean;
+      frozen = frozen_one g.A.Disk g.B.Disk _ said.frozen;
+      seen = said.seen;
+      tally = said.tally;
+      key = said.key;
+      rot = said.rot;
+      usable = said.usable;
+      crash = said.crash;
+    })
 
-pub returns-in-One-clause-faults : goal.returns-in-One-clause-faults
-returns-in-One-clause-faults g c = rw c.in-One.is c.len.ensures.faults
-
-pub returns-in-One-clause-clean : goal.returns-in-One-clause-clean
-returns-in-One-clause-clean g c = rw c.in-One.is c.len.ensures.clean
-
-pub returns-in-One-clause-frozen : goal.returns-in-One-clause-frozen
-returns-in-One-clause-frozen g c = rw c.in-One.is (frozen_one g.A.Disk g.B.Disk _ c.len.ensures.frozen)
-
-pub returns-in-One-clause-seen : goal.returns-in-One-clause-seen
-returns-in-One-clause-seen g c = rw c.in-One.is c.len.ensures.seen
-
-pub returns-in-One-clause-tally : goal.returns-in-One-clause-tally
-returns-in-One-clause-tally g c = rw c.in-One.is c.len.ensures.tally
-
-pub returns-in-One-clause-key : goal.returns-in-One-clause-key
-returns-in-One-clause-key g c = rw c.in-One.is c.len.ensures.key
-
-pub returns-in-One-clause-rot : goal.returns-in-One-clause-rot
-returns-in-One-clause-rot g c = rw c.in-One.is c.len.ensures.rot
-
-pub returns-in-One-clause-usable : goal.returns-in-One-clause-usable
-returns-in-One-clause-usable g c = c.len.ensures.usable
-
-pub returns-in-One-clause-crash : goal.returns-in-One-clause-crash
-returns-in-One-clause-crash g c = rw c.in-One.is c.len.ensures.crash
-
-pub returns-in-Other-clause-len : goal.returns-in-Other-clause-len
-returns-in-Other-clause-len g c = rw c.in-Other.is c.len-in-Other.ensures.len
-
-pub returns-in-Other-clause-faults : goal.returns-in-Other-clause-faults
-returns-in-Other-clause-faults g c = rw c.in-Other.is c.len-in-Other.ensures.faults
-
-pub returns-in-Other-clause-clean : goal.returns-in-Other-clause-clean
-returns-in-Other-clause-clean g c = rw c.in-Other.is c.len-in-Other.ensures.clean
-
-pub returns-in-Other-clause-frozen : goal.returns-in-Other-clause-frozen
-returns-in-Other-clause-frozen g c = rw c.in-Other.is (frozen_other g.A.Disk g.B.Disk _ c.len-in-Other.ensures.frozen)
-
-pub returns-in-Other-clause-seen : goal.returns-in-Other-clause-seen
-returns-in-Other-clause-seen g c = rw c.in-Other.is c.len-in-Other.ensures.seen
-
-pub returns-in-Other-clause-tally : goal.returns-in-Other-clause-tally
-returns-in-Other-clause-tally g c = rw c.in-Other.is c.len-in-Other.ensures.tally
-
-pub returns-in-Other-clause-key : goal.returns-in-Other-clause-key
-returns-in-Other-clause-key g c = rw c.in-Other.is c.len-in-Other.ensures.key
-
-pub returns-in-Other-clause-rot : goal.returns-in-Other-clause-rot
-returns-in-Other-clause-rot g c = rw c.in-Other.is c.len-in-Other.ensures.rot
-
-pub returns-in-Other-clause-usable : goal.returns-in-Other-clause-usable
-returns-in-Other-clause-usable g c = c.len-in-Other.ensures.usable
-
-pub returns-in-Other-clause-crash : goal.returns-in-Other-clause-crash
-returns-in-Other-clause-crash g c = rw c.in-Other.is c.len-in-Other.ensures.crash
+pub returns-in-Other : goal.returns-in-Other
+returns-in-Other g c =
+    let said = c.len-in-Other.ensures in
+    rw c.in-Other.is (record {
+      len = said.len;
+      faults = said.faults;
+      clean = said.clean;
+      frozen = frozen_other g.A.Disk g.B.Disk _ said.frozen;
+      seen = said.seen;
+      tally = said.tally;
+      key = said.key;
+      rot = said.rot;
+      usable = said.usable;
+      crash = said.crash;
+    })
