@@ -2,7 +2,7 @@
 ghost use Rattle.std.specs.Prelude.{[], IfOk, OnOk};
 
 use crate::spaces::Space;
-use cg_text::{Fault, NameWord, Namespace};
+use cg_text::{Fault, NameWord, Namespace, UNKNOWN};
 use profile_records::{LentName, LentNames, Mark};
 use std::alloc::{AllocError, Global};
 
@@ -58,7 +58,7 @@ impl Names {
         ensures lent { AreLent self.now result }
     {
         let unnamed = LentName {
-            text: b"???",
+            text: UNKNOWN,
             mark: Mark::Unnamed,
         };
         LentNames {

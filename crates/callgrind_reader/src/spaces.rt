@@ -7,7 +7,7 @@ ghost use Rattle.callgrind_reader.specs.Current.{given_text, place_given, text_o
 ghost use Rattle.callgrind_reader.specs.declared.tables.NameTable.{NameTable};
 
 use crate::tables::NameTable;
-use cg_text::{Fault, Role, name_spec};
+use cg_text::{Fault, Role, UNKNOWN, name_spec};
 use profile_records::{LentName, Mark};
 use std::alloc::{AllocError, Global};
 
@@ -32,7 +32,7 @@ fn resolve<'a>(
         Err(fault) => return Ok(Err(fault)),
     };
     let Some(id) = spec.id else {
-        return Ok(Ok(Given::Plain(spec.text.unwrap_or(b"???"))));
+        return Ok(Ok(Given::Plain(spec.text.unwrap_or(UNKNOWN))));
     };
     let Some(text) = spec.text else {
         return match table.find(id) {
@@ -124,7 +124,7 @@ impl Space {
             table: NameTable::new(alloc),
             own: Current {
                 place: None,
-                plain: b"???".to_vec(alloc)?,
+                plain: UNKNOWN.to_vec(alloc)?,
                 count: 0,
             },
             called: Current {

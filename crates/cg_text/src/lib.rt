@@ -39,7 +39,7 @@ pub use kinds::{LineKind, classify};
 pub use laws::lines_are_the_text;
 pub use lines::{Lines, first_line, line_end};
 pub use list_vec::ListVec;
-pub use names::{NameSpec, name_spec};
+pub use names::{NameSpec, UNKNOWN, name_spec};
 pub use numbers::{amount, is_digit, number, value_in};
 pub use positions::SubPos;
 pub use readings::{LINE_LIMIT, read_line};

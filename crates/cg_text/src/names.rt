@@ -8,6 +8,9 @@ use crate::faults::Fault;
 use crate::numbers::number;
 use memchr::memchr;
 
+/// The name of what has none.
+pub const UNKNOWN: &[u8] = b"???";
+
 /// What the value of a name line says: an identifier, a text, or both.
 #[derive(Clone, Copy, Debug, PartialEq, Eq)]
 pub struct NameSpec<'a> {
@@ -27,11 +30,7 @@ fn first_closing(bytes: &[u8]) -> Option<usize>
 fn plain_name(value: &[u8]) -> NameSpec<'_>
     ensures { plain_spec result ≡ plain_name value.now }
 {
-    let text = if value.is_empty() {
-        b"???".as_slice()
-    } else {
-        value
-    };
+    let text = if value.is_empty() { UNKNOWN } else { value };
     NameSpec {
         id: None,
         text: Some(text),

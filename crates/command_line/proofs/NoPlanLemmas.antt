@@ -4,12 +4,13 @@ use Rattle.std.specs.Bool.{MatchBool}
 use Rattle.std.specs.Str.{bytes_eq}
 use Rattle.std.specs.Borrow.{Bor}
 use Rattle.clap.specs.Walk.{Row, Text}
+use Rattle.cost_rows.specs.Keys.{key_name}
 use Rattle.cost_rows.specs.declared.keys.Key.{Key}
 use Rattle.requests.specs.Plain.{LentSelection}
 use Rattle.command_line.specs.declared.plans.Plan.{Plan}
 use Rattle.command_line.specs.declared.plans.Plan.TheVariants as plans
 use Rattle.command_line.specs.Plans.{HasLess, HasNoPlan, HasNumber, HasMember, HasRuns, HasSelection, HasWord, HasWords, IsByteCount, IsLimit, IsOneOf, IsPlanned, IsPort, IsRequestCount}
-use Rattle.command_line.specs.Plans.{IsSoundSelection, SaysNumber, key_word, memberships}
+use Rattle.command_line.specs.Plans.{IsSoundSelection, SaysNumber, memberships}
 
 -- ---- what a plan needs of the rows
 
@@ -36,7 +37,7 @@ abbrev NeedsLess : List Row → Type 0
 NeedsLess rows = Any (λ (less : Option LentSelection). IfSome less IsSoundSelection × HasLess rows less)
 
 abbrev NeedsKey : List Row → Type 0
-NeedsKey rows = Any (λ (key : Key). HasWord rows (codes "KEY") (key_word key))
+NeedsKey rows = Any (λ (key : Key). HasWord rows (codes "KEY") (key_name key))
 
 abbrev NeedsLimit : List Row → Type 0
 NeedsLimit rows = Any (λ (limit : Option ℕ). IfSome limit IsLimit × HasNumber rows (codes "limit") limit)

@@ -1,5 +1,8 @@
 -- The command line that the program reads, as clap's definitions see it.
 use Rattle.std.specs.Prelude.{◌≡◌, true, pos, List, [], ◌∷◌, ◌++◌, fold, map, Some, codes}
+use Rattle.cg_text.specs.Names.{unknown}
+use Rattle.cost_rows.specs.Keys.{key_name}
+use Rattle.cost_rows.specs.declared.keys.Key.TheVariants.{Object, File, Function, Line, Thread}
 use Rattle.clap.specs.Lexer.{usize_max}
 use Rattle.clap.specs.Words.{App, Rule, Text, new_app, new_rule, with_subcommand}
 use Rattle.clap.specs.Simple.{on_top}
@@ -48,7 +51,7 @@ threshold = record (option (codes "threshold")) { parser = Some (Signed (pos 0) 
 
 -- ??? where it is not given: so an object is called that no file names
 abbrev pub object : Rule
-object = record (option (codes "object")) { defaults = codes "???" ∷ [] }
+object = record (option (codes "object")) { defaults = unknown ∷ [] }
 
 -- the file whose lines are annotated
 abbrev pub annotated : Rule
@@ -162,7 +165,7 @@ command_line keys = fold with_row program (rows keys)
 -- ---- the words of keys
 
 abbrev pub key_words : List Text
-key_words = codes "object" ∷ codes "file" ∷ codes "function" ∷ codes "line" ∷ codes "thread" ∷ []
+key_words = map key_name (Object ∷ File ∷ Function ∷ Line ∷ Thread ∷ [])
 
 -- the parser takes the words of keys; where these lie in memory is left open
 abbrev pub TakesKeys : ValueParser → Type 0

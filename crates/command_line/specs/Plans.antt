@@ -9,8 +9,8 @@ use Rattle.clap.specs.Values.{kind_of}
 use Rattle.clap.specs.Walk.{Row, Text, all_of, first_of, one_of}
 use Rattle.clap.specs.declared.error.Error.{Error}
 use Rattle.clap.specs.declared.error.kind.ErrorKind.TheVariants.{OutOfMemory}
+use Rattle.cost_rows.specs.Keys.{key_name}
 use Rattle.cost_rows.specs.declared.keys.Key.{Key}
-use Rattle.cost_rows.specs.declared.keys.Key.TheVariants.{Object, File, Function, Line, Thread}
 use Rattle.profile_records.specs.declared.kinds.Kind.{Kind}
 use Rattle.profile_records.specs.declared.kinds.Kind.TheVariants.{Callgrind, Folded}
 use Rattle.command_line.specs.declared.plans.Plan.{Plan}
@@ -131,14 +131,6 @@ HasLess rows None = HasSelectionBy (codes "less-run") (codes "less-group") rows 
 HasLess rows (Some selections.All) = ⊥
 HasLess rows (Some runs) = HasSelectionBy (codes "less-run") (codes "less-group") rows runs
 
--- the word of a key
-abbrev pub key_word : Key → Text
-key_word Object = codes "object"
-key_word File = codes "file"
-key_word Function = codes "function"
-key_word Line = codes "line"
-key_word Thread = codes "thread"
-
 -- the numbers that the words of an argument say, each by digits
 abbrev pub HaveRuns : List Row → List ℕ → Type 0
 HaveRuns rows numbers = (option_map (map number_of) (all_of (codes "N") rows) ≡ Some numbers) × IfSome (all_of (codes "N") rows) (All IsNumber)
@@ -177,7 +169,7 @@ IsPlanOf name rows (Baseline db group number) =
 IsPlanOf name rows (Groups db) = (name ≡ codes "groups") × HasWord rows (codes "db") db.now
 IsPlanOf name rows (By db runs event limit threshold key) =
     (name ≡ codes "by") × HasWord rows (codes "db") db.now × HasSelection rows runs × HasWord rows (codes "event") event.now
-    × HasNumber rows (codes "limit") limit × HasNumber rows (codes "threshold") (Some threshold) × HasWord rows (codes "KEY") (key_word key)
+    × HasNumber rows (codes "limit") limit × HasNumber rows (codes "threshold") (Some threshold) × HasWord rows (codes "KEY") (key_name key)
 IsPlanOf name rows (Inclusive db runs event) =
     (name ≡ codes "inclusive") × HasWord rows (codes "db") db.now × HasSelection rows runs × HasWord rows (codes "event") event.now
 IsPlanOf name rows (Callers db runs event object function) =
@@ -188,7 +180,7 @@ IsPlanOf name rows (Callees db runs event object function) =
     × HasWord rows (codes "object") object.now × HasWord rows (codes "FUNCTION") function.now
 IsPlanOf name rows (Subtract db runs less event key) =
     (name ≡ codes "subtract") × HasWord rows (codes "db") db.now × HasSelection rows runs × HasLess rows less
-    × HasWord rows (codes "event") event.now × HasWord rows (codes "KEY") (key_word key)
+    × HasWord rows (codes "event") event.now × HasWord rows (codes "KEY") (key_name key)
 IsPlanOf name rows (Verify db runs) = (name ≡ codes "verify") × HasWord rows (codes "db") db.now × HasSelection rows runs
 IsPlanOf name rows (plans.Annotate db runs event file source) =
     (name ≡ codes "annotate") × HasWord rows (codes "db") db.now × HasSelection rows runs × HasWord rows (codes "event") event.now

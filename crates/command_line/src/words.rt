@@ -1,7 +1,8 @@
 // What was found of the arguments of a subcommand.
 ghost use Rattle.std.specs.Prelude.{◌≡◌, ◌≢◌, ◌↔◌, ◌≤◌, true, [], All, map, codes, Some, None, IfNone, IfOk, IfSome, IsSome};
 ghost use Rattle.clap.specs.Words.{all_of, first_of, found_of, one_of, rows_of};
-ghost use Rattle.command_line.specs.Plans.{IsByteCount, IsLimit, IsPort, IsRequestCount, IsRunNumber, IsSoundSelection, SaysRun, SaysUpTo, number_of, key_word};
+ghost use Rattle.cost_rows.specs.Keys.{key_name};
+ghost use Rattle.command_line.specs.Plans.{IsByteCount, IsLimit, IsPort, IsRequestCount, IsRunNumber, IsSoundSelection, SaysRun, SaysUpTo, number_of};
 ghost use Rattle.command_line.specs.Plans.{HasWord, HasWords, HasNumber, HasRun, HasRuns, HaveRuns, IsFlag, NamesBoth, NoneIs, SaysNumber};
 ghost use Rattle.command_line.specs.Plans.{HasSelection, HasSelectionBy, HasLess};
 
@@ -219,8 +220,8 @@ pub fn most_bytes(words: &ArgMatches<'_>) -> Option<u32>
 
 /// The key that was named.
 pub fn key(words: &ArgMatches<'_>) -> Option<Key>
-    ensures some { IfSome result (λ key. HasWord (rows_of (found_of words.now)) (codes "KEY") (key_word key)) }
-    ensures none { IfNone result (NoneIs (λ key. HasWord (rows_of (found_of words.now)) (codes "KEY") (key_word key))) }
+    ensures some { IfSome result (λ key. HasWord (rows_of (found_of words.now)) (codes "KEY") (key_name key)) }
+    ensures none { IfNone result (NoneIs (λ key. HasWord (rows_of (found_of words.now)) (codes "KEY") (key_name key))) }
 {
     match word(words, "KEY")? {
         "object" => Some(Key::Object),

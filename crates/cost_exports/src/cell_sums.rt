@@ -1,6 +1,7 @@
 // What places cost by the names of events.
-ghost use Rattle.std.specs.Prelude.{◌≡◌, ◌+◌, ◌<◌, ◌^◌, Some, [], OnOk, OnErr, IfOk, IfSome};
+ghost use Rattle.std.specs.Prelude.{◌≡◌, ◌+◌, ◌<◌, Some, [], OnOk, OnErr, IfOk, IfSome};
 ghost use Rattle.cost_rows.specs.Plain.{plain_cell};
+ghost use Rattle.cost_rows.specs.KeySums.{sum_end};
 ghost use Rattle.report_texts.specs.Amounts.{amount_of};
 ghost use Rattle.report_texts.specs.Csv.{with_cell};
 ghost use Rattle.cost_exports.specs.Views.{held_names, names_of_row, slot_of, sums_in};
@@ -57,7 +58,7 @@ pub struct CellSums {
     places: Places,
     total: u128,
     ghost is_total: { total ≡ amount_of (sums_in places) },
-    ghost small: { total < 2 ^ 112 },
+    ghost small: { total < sum_end },
 }
 
 impl Model for CellSums {
@@ -90,7 +91,7 @@ impl CellSums {
     /// What all costs sum to, whatever their events.
     pub fn total(&self) -> u128
         ensures value { result ≡ amount_of self.now }
-        ensures small { result < 2 ^ 112 }
+        ensures small { result < sum_end }
     {
         self.total
     }
@@ -98,7 +99,7 @@ impl CellSums {
     /// Adds a cell's cost to that of its place in an event, whose name is given; a cost of 0 adds nothing.
     /// A refusal leaves the sums as they were.
     pub fn add(&mut self, row: &CellRow<&[u8]>, event: &[u8]) -> Result<(), AllocError>
-        requires small { amount_of self.old + row.now.cost < 2 ^ 112 }
+        requires small { amount_of self.old + row.now.cost < sum_end }
         ensures ok { OnOk result (self.new ≡ with_cell self.old (plain_cell row.now) event.now) }
         ensures err { OnErr result (self.new ≡ self.old) }
     {

@@ -2,6 +2,7 @@
 ghost use Rattle.std.specs.Prelude.{◌≡◌, ◌+◌, ◌<◌, ◌^◌, OnOk, OnErr, IfOk};
 ghost use Rattle.std.specs.Ordering.{nat_cmp};
 ghost use Rattle.cost_rows.specs.Plain.{plain_cell};
+ghost use Rattle.cost_rows.specs.KeySums.{sum_end};
 ghost use Rattle.report_texts.specs.Amounts.{amount_of, with_amount};
 ghost use Rattle.report_texts.specs.Annotations.{cost_at, no_lines, with_line};
 
@@ -32,7 +33,7 @@ pub struct LineSums {
     sums: BTreeMap<u64, u128>,
     total: u128,
     ghost is_total: { total ≡ amount_of sums.entries },
-    ghost small: { total < 2 ^ 112 },
+    ghost small: { total < sum_end },
 }
 
 impl Model for LineSums {
@@ -73,7 +74,7 @@ impl LineSums {
     /// What all lines cost.
     pub fn total(&self) -> u128
         ensures value { result ≡ amount_of self.now.costs }
-        ensures small { result < 2 ^ 112 }
+        ensures small { result < sum_end }
     {
         self.total
     }
@@ -89,7 +90,7 @@ impl LineSums {
     /// Adds a row, if it is of the file: its cost to that of its line. A row of cost 0, as one of another
     /// event, tells that the file is known. A refusal leaves the sums as they were.
     pub fn add(&mut self, row: &CellRow<&[u8]>) -> Result<(), AllocError>
-        requires small { amount_of self.old.costs + row.now.cost < 2 ^ 112 }
+        requires small { amount_of self.old.costs + row.now.cost < sum_end }
         ensures ok { OnOk result (self.new ≡ with_line self.old (plain_cell row.now)) }
         ensures err { OnErr result (self.new ≡ self.old) }
     {

@@ -2,6 +2,7 @@
 ghost use Rattle.std.specs.Prelude.{◌≡◌, ◌+◌, ◌<◌, ◌^◌, [], OnOk, OnErr};
 ghost use Rattle.cost_rows.specs.Plain.{plain_stack};
 ghost use Rattle.cost_rows.specs.Stacks.{bytes_cmp, by_bytes};
+ghost use Rattle.cost_rows.specs.KeySums.{sum_end};
 ghost use Rattle.report_texts.specs.Amounts.{amount_of, with_amount};
 ghost use Rattle.report_texts.specs.Folded.{with_stack};
 
@@ -37,7 +38,7 @@ pub struct StackSums {
     sums: BTreeMap<Vec<u8>, u128>,
     total: u128,
     ghost is_total: { total ≡ amount_of (by_bytes sums.entries) },
-    ghost small: { total < 2 ^ 112 },
+    ghost small: { total < sum_end },
 }
 
 impl Model for StackSums {
@@ -64,7 +65,7 @@ impl StackSums {
     /// What all stacks count.
     pub fn total(&self) -> u128
         ensures value { result ≡ amount_of self.now }
-        ensures small { result < 2 ^ 112 }
+        ensures small { result < sum_end }
     {
         self.total
     }
@@ -72,7 +73,7 @@ impl StackSums {
     /// Adds a row's count to that of its stack; a count of 0 adds nothing. A refusal leaves the sums as
     /// they were.
     pub fn add(&mut self, row: &StackRow<&[u8]>) -> Result<(), AllocError>
-        requires small { amount_of self.old + row.now.count < 2 ^ 112 }
+        requires small { amount_of self.old + row.now.count < sum_end }
         ensures ok { OnOk result (self.new ≡ with_stack self.old (plain_stack row.now)) }
         ensures err { OnErr result (self.new ≡ self.old) }
     {

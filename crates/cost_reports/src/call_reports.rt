@@ -1,6 +1,7 @@
 // Who calls a function, and whom it calls.
-ghost use Rattle.std.specs.Prelude.{◌≡◌, ◌+◌, ◌<◌, ◌^◌, [], OnOk, OnErr, IfOk};
+ghost use Rattle.std.specs.Prelude.{◌≡◌, ◌+◌, ◌<◌, [], OnOk, OnErr, IfOk};
 ghost use Rattle.cost_rows.specs.Keys.{lent_place};
+ghost use Rattle.cost_rows.specs.KeySums.{sum_end};
 ghost use Rattle.report_texts.specs.Calls.{call_cmp, call_report_of, calls_of_row, with_calls};
 ghost use Rattle.report_texts.specs.Functions.{function_spot, is_one_function};
 ghost use Rattle.report_texts.specs.Pairs.{firsts_of, seconds_of, AreBelow};
@@ -56,7 +57,7 @@ impl<'n> CallSums<'n> {
     /// What the calls cost.
     pub fn cost(&self) -> u128
         ensures value { result ≡ firsts_of self.now.sums }
-        ensures small { result < 2 ^ 112 }
+        ensures small { result < sum_end }
     {
         self.sums.total().first
     }
@@ -64,7 +65,7 @@ impl<'n> CallSums<'n> {
     /// How many calls there were.
     pub fn count(&self) -> u128
         ensures value { result ≡ seconds_of self.now.sums }
-        ensures small { result < 2 ^ 112 }
+        ensures small { result < sum_end }
     {
         self.sums.total().second
     }

@@ -1,20 +1,15 @@
 // The functions of a stack.
 ghost use Rattle.std.specs.Prelude.{◌≡◌, IfOk, bytes_eq, map};
 ghost use Rattle.std.specs.List.{list_any};
-ghost use Rattle.profile_records.specs.Frames.{function_of, functions_of};
+ghost use Rattle.profile_records.specs.Frames.{functions_of};
 ghost use Rattle.report_texts.specs.Functions.{function_spot};
 ghost use Rattle.report_texts.specs.Inclusive.{functions_in, is_frame, names_in};
 
+use cg_text::UNKNOWN;
 use memchr::memchr;
+use profile_records::function;
 use std::alloc::{AllocError, Global};
 use std::collections::BTreeSet;
-
-/// The function of a frame: `???` where it has no name.
-fn function(frame: &[u8]) -> &[u8]
-    ensures { result.now ≡ function_of frame.now }
-{
-    if frame.is_empty() { b"???" } else { frame }
-}
 
 /// The functions that have a frame in a stack, each once.
 pub fn functions_in(alloc: Global, frames: &[u8]) -> Result<BTreeSet<&[u8]>, AllocError>
@@ -48,5 +43,5 @@ fn has_frame(frames: &[u8], name: &[u8]) -> bool
 pub fn is_frame(frames: &[u8], object: &[u8], name: &[u8]) -> bool
     ensures { result ≡ is_frame (function_spot object.now name.now) frames.now }
 {
-    object == b"???".as_slice() && has_frame(frames, name)
+    object == UNKNOWN && has_frame(frames, name)
 }

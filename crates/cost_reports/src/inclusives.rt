@@ -1,6 +1,6 @@
 // What functions cost with all that they call.
-ghost use Rattle.std.specs.Prelude.{◌≡◌, ◌+◌, ◌*◌, ◌<◌, ◌^◌, [], fold, length, OnOk, IfOk};
-ghost use Rattle.cost_rows.specs.KeySums.{total_of, with_row, rows_of};
+ghost use Rattle.std.specs.Prelude.{◌≡◌, ◌+◌, ◌*◌, ◌<◌, [], fold, length, OnOk, IfOk};
+ghost use Rattle.cost_rows.specs.KeySums.{total_of, with_row, rows_of, sum_end};
 ghost use Rattle.cost_rows.specs.Plain.{plain_stack};
 ghost use Rattle.cost_rows.specs.declared.keys.Key.TheVariants.{Function};
 ghost use Rattle.report_texts.specs.Inclusive.{inclusive_report, names_in, names_costs, with_stack};
@@ -11,6 +11,7 @@ use crate::frames::functions_in;
 use crate::lent_sums::LentSums;
 use crate::ranks::ranked_rows;
 use crate::rows::Row;
+use cg_text::UNKNOWN;
 use cost_rows::{CellRow, Key, Merged, StackRow};
 use std::alloc::{AllocError, Global};
 use std::collections::BTreeSet;
@@ -24,7 +25,7 @@ pub struct FrameSums {
     merged: Merged,
     total: u128,
     ghost by_function: { merged.key ≡ Function },
-    ghost small: { total < 2 ^ 112 },
+    ghost small: { total < sum_end },
 }
 
 impl Model for FrameSums {
@@ -41,14 +42,14 @@ fn add_functions(
     functions: &BTreeSet<&[u8]>,
     count: u128,
 ) -> Result<(), AllocError>
-    requires small { total_of merged.old.sums + total_of (names_costs count (names_in functions.now.keys)) < 2 ^ 112 }
+    requires small { total_of merged.old.sums + total_of (names_costs count (names_in functions.now.keys)) < sum_end }
     ensures sums { OnOk result (merged.new ≡ fold with_row merged.old (rows_of (names_costs count (names_in functions.now.keys)))) }
     ensures key { merged.new.key ≡ merged.old.key }
 {
     for function in functions.iter() {
         merged.add(&CellRow {
-            object: b"???".as_slice(),
-            file: b"???".as_slice(),
+            object: UNKNOWN,
+            file: UNKNOWN,
             function: *function,
             line: 0,
             thread: 0,
@@ -61,7 +62,7 @@ fn add_functions(
 
 /// Adds the sums of others to those of some rows.
 fn add_sums<'n>(sums: &mut LentSums<'n>, others: &'n Merged) -> Result<(), AllocError>
-    requires small { total_of sums.old.sums + total_of others.now.sums < 2 ^ 112 }
+    requires small { total_of sums.old.sums + total_of others.now.sums < sum_end }
     ensures sums { OnOk result (sums.new ≡ fold with_row sums.old (rows_of others.now.sums)) }
     ensures key { sums.new.key ≡ sums.old.key }
 {
@@ -87,7 +88,7 @@ impl FrameSums {
     /// What all functions cost by themselves.
     pub fn total(&self) -> u128
         ensures value { result ≡ self.now.total }
-        ensures small { result < 2 ^ 112 }
+        ensures small { result < sum_end }
     {
         self.total
     }
@@ -95,7 +96,7 @@ impl FrameSums {
     /// What is held of all functions: a cost counts once for each function that it is told of.
     pub fn sum(&self) -> u128
         ensures value { result ≡ total_of self.now.sums }
-        ensures small { result < 2 ^ 112 }
+        ensures small { result < sum_end }
     {
         self.merged.total()
     }
@@ -103,8 +104,8 @@ impl FrameSums {
     /// Adds a row of stacks of a folded run: its count once for each function that has a frame in it.
     /// They are at most as many as the frames have bytes, and one more: so much room is asked for.
     pub fn add_stack(&mut self, row: &StackRow<&[u8]>) -> Result<(), AllocError>
-        requires sum { total_of self.old.sums + (length row.now.stack.now + 1) * row.now.count < 2 ^ 112 }
-        requires total { self.old.total + row.now.count < 2 ^ 112 }
+        requires sum { total_of self.old.sums + (length row.now.stack.now + 1) * row.now.count < sum_end }
+        requires total { self.old.total + row.now.count < sum_end }
         ensures { OnOk result (self.new ≡ with_stack self.old (plain_stack row.now)) }
     {
         let functions = functions_in(self.alloc, row.stack)?;
@@ -141,7 +142,7 @@ pub struct InclusiveSums<'n> {
     sums: LentSums<'n>,
     total: u128,
     ghost by_function: { sums.key ≡ Function },
-    ghost small: { total < 2 ^ 112 },
+    ghost small: { total < sum_end },
 }
 
 impl<'n> Model for InclusiveSums<'n> {
@@ -156,7 +157,7 @@ impl<'n> InclusiveSums<'n> {
     /// Of inclusive costs by function, and what all functions cost by themselves.
     pub fn new(sums: LentSums<'n>, total: u128) -> InclusiveSums<'n>
         requires key { sums.key ≡ Function }
-        requires small { total < 2 ^ 112 }
+        requires small { total < sum_end }
         ensures sums { result.sums ≡ sums.entry.sums }
         ensures total { result.total ≡ total }
     {
@@ -170,8 +171,8 @@ impl<'n> InclusiveSums<'n> {
 pub struct InclusiveReport<'a> {
     pub(crate) rows: Vec<Row<'a>>,
     pub(crate) total: u128,
-    ghost small_rows: { total_of (plain_rows rows.items) < 2 ^ 112 },
-    ghost small_total: { total < 2 ^ 112 },
+    ghost small_rows: { total_of (plain_rows rows.items) < sum_end },
+    ghost small_total: { total < sum_end },
 }
 
 impl<'a> Model for InclusiveReport<'a> {
@@ -194,7 +195,7 @@ impl<'a> InclusiveReport<'a> {
     /// What all functions cost by themselves.
     pub fn total(&self) -> u128
         ensures value { result ≡ self.now.total }
-        ensures small { result < 2 ^ 112 }
+        ensures small { result < sum_end }
     {
         self.total
     }

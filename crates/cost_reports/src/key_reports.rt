@@ -1,6 +1,6 @@
 // Reports by key.
-ghost use Rattle.std.specs.Prelude.{◌≡◌, ℕ, ◌+◌, ◌≤◌, ◌<◌, ◌^◌, List, IfOk};
-ghost use Rattle.cost_rows.specs.KeySums.{total_of};
+ghost use Rattle.std.specs.Prelude.{◌≡◌, ℕ, ◌+◌, ◌≤◌, ◌<◌, List, IfOk};
+ghost use Rattle.cost_rows.specs.KeySums.{total_of, sum_end};
 ghost use Rattle.cost_rows.specs.Sums.{Spot};
 ghost use Rattle.report_texts.specs.KeyReports.{report_of};
 ghost use Rattle.cost_reports.specs.Enough.{AreEnough};
@@ -22,7 +22,7 @@ pub struct Report<'a> {
     pub(crate) rest: u128,
     pub(crate) total: u128,
     ghost whole: { total_of (plain_rows rows.items) + rest ≡ total },
-    ghost small: { total < 2 ^ 112 },
+    ghost small: { total < sum_end },
 }
 
 impl<'a> Model for Report<'a> {
@@ -59,7 +59,7 @@ impl<'a> Report<'a> {
     /// What all rows cost, those that are not shown included.
     pub fn total(&self) -> u128
         ensures value { result ≡ self.now.total }
-        ensures small { result < 2 ^ 112 }
+        ensures small { result < sum_end }
     {
         self.total
     }
@@ -74,7 +74,7 @@ pub fn by<'a>(
     total: u128,
     cut: Cut,
 ) -> Result<Report<'a>, AllocError>
-    requires small { total < 2 ^ 112 }
+    requires small { total < sum_end }
     requires within { total_of (given_sums sums.now) ≤ total }
     ensures { IfOk result (λ report. (all : List (Spot × ℕ)) → total_of all ≡ total → AreEnough (λ e. e.1) cut all (given_sums sums.now)
         → report ≡ report_of key cut all) }

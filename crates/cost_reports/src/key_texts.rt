@@ -1,12 +1,12 @@
 // The text of a report by key.
 ghost use Rattle.std.specs.Fmt.{decimal};
-ghost use Rattle.std.specs.Prelude.{◌≡◌, ◌<◌, ◌≤◌, ◌^◌, ◌++◌, OnOk, IfOk, codes, length};
+ghost use Rattle.std.specs.Prelude.{◌≡◌, ◌<◌, ◌≤◌, ◌++◌, OnOk, IfOk, codes, length};
 ghost use Rattle.byte_io.specs.Escapes.{escaped};
-ghost use Rattle.cost_rows.specs.KeySums.{total_of};
+ghost use Rattle.cost_rows.specs.KeySums.{total_of, sum_end};
 ghost use Rattle.cost_rows.specs.declared.keys.Key.TheVariants.{Function, Line};
-ghost use Rattle.report_texts.specs.KeyTexts.{key_name, part_text, cost_text, cost_line, row_text, rows_text, head_text, key_report_text};
+ghost use Rattle.report_texts.specs.KeyTexts.{part_text, cost_text, cost_line, row_text, rows_text, head_text, key_report_text};
 ghost use Rattle.byte_io.specs.Written.{GoesOn};
-ghost use Rattle.cost_rows.specs.Keys.{lent_place};
+ghost use Rattle.cost_rows.specs.Keys.{key_name, lent_place};
 ghost use Rattle.cost_reports.specs.Rows.{plain_row, plain_rows};
 
 use crate::key_reports::Report;
@@ -16,18 +16,6 @@ use crate::rows::Row;
 use byte_io::{SharedText, TextWriter};
 use cost_rows::{Key, LentPlace};
 use std::alloc::{AllocError, Global};
-
-fn key_name(key: Key) -> &'static [u8]
-    ensures { result.now ≡ key_name key }
-{
-    match key {
-        Key::Object => b"object",
-        Key::File => b"file",
-        Key::Function => b"function",
-        Key::Line => b"line",
-        Key::Thread => b"thread",
-    }
-}
 
 /// Adds a number.
 fn push_count(text: &mut TextWriter<'_>, count: u64) -> Result<(), AllocError>
@@ -73,7 +61,7 @@ pub(crate) fn push_part<'n>(
 
 /// Adds a cost and its part of the total.
 fn push_cost(text: &mut TextWriter<'_>, cost: u128, total: u128) -> Result<(), AllocError>
-    requires { cost < 2 ^ 112 }
+    requires { cost < sum_end }
     ensures { OnOk result (GoesOn text.old text.new (cost_text cost total)) }
 {
     push_number(&mut text.bytes, cost)?;
@@ -97,7 +85,7 @@ pub(crate) fn push_sum(
     total: u128,
     name: &[u8],
 ) -> Result<(), AllocError>
-    requires { cost < 2 ^ 112 }
+    requires { cost < sum_end }
     ensures { OnOk result (GoesOn text.old text.new (cost_line cost total name.now)) }
 {
     push_cost(text, cost, total)?;
@@ -124,7 +112,7 @@ fn push_row<'n>(
     total: u128,
     row: &Row<'n>,
 ) -> Result<(), AllocError>
-    requires { (plain_row row.now).1 < 2 ^ 112 }
+    requires { (plain_row row.now).1 < sum_end }
     ensures { OnOk result (GoesOn text.old text.new (row_text key total (plain_row row.now))) }
 {
     push_cost(text, row.cost.0, total)?;
@@ -138,7 +126,7 @@ pub(crate) fn push_rows<'n>(
     total: u128,
     rows: &[Row<'n>],
 ) -> Result<(), AllocError>
-    requires { total_of (plain_rows rows.now) < 2 ^ 112 }
+    requires { total_of (plain_rows rows.now) < sum_end }
     ensures { OnOk result (GoesOn text.old text.new (rows_text key total (plain_rows rows.now))) }
 {
     for row in rows {
@@ -156,7 +144,7 @@ pub(crate) fn push_key_and_event(
 ) -> Result<(), AllocError>
     ensures { OnOk result (GoesOn text.old text.new (key_name key ++ (codes " " ++ (escaped event.now ++ codes "\n")))) }
 {
-    text.push_bytes(key_name(key))?;
+    text.push_bytes(key.name())?;
     text.push(b' ')?;
     text.push_escaped(event)?;
     text.push(b'\n')

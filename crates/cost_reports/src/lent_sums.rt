@@ -1,6 +1,6 @@
 // Rows whose names are lent, added up by key.
-ghost use Rattle.std.specs.Prelude.{◌≡◌, ◌+◌, ◌<◌, ◌^◌, [], OnOk, OnErr, length};
-ghost use Rattle.cost_rows.specs.KeySums.{total_of, with_row};
+ghost use Rattle.std.specs.Prelude.{◌≡◌, ◌+◌, ◌<◌, [], OnOk, OnErr, length};
+ghost use Rattle.cost_rows.specs.KeySums.{total_of, with_row, sum_end};
 ghost use Rattle.cost_rows.specs.Plain.{plain_cell};
 ghost use Rattle.cost_rows.specs.Keys.{lent_place};
 ghost use Rattle.cost_reports.specs.InStep.{IsInOrder};
@@ -20,7 +20,7 @@ pub struct LentSums<'n> {
     sums: BTreeMap<LentPlace<'n>, u128>,
     total: u128,
     ghost is_total: { total ≡ total_of (lent_sums sums.entries) },
-    ghost small: { total < 2 ^ 112 },
+    ghost small: { total < sum_end },
 }
 
 impl<'n> Model for LentSums<'n> {
@@ -62,7 +62,7 @@ impl<'n> LentSums<'n> {
     /// The sum of all costs that were added.
     pub fn total(&self) -> u128
         ensures value { result ≡ total_of self.now.sums }
-        ensures small { result < 2 ^ 112 }
+        ensures small { result < sum_end }
     {
         self.total
     }
@@ -70,7 +70,7 @@ impl<'n> LentSums<'n> {
     /// Adds a row's cost to the sum of the part of its place that the key tells; a cost of 0 adds nothing. A refusal
     /// leaves the sums as they were.
     pub fn add(&mut self, row: &CellRow<&'n [u8]>) -> Result<(), AllocError>
-        requires small { total_of self.old.sums + row.now.cost < 2 ^ 112 }
+        requires small { total_of self.old.sums + row.now.cost < sum_end }
         ensures ok { OnOk result (self.new ≡ with_row self.old (plain_cell row.now)) }
         ensures total { OnOk result (total_of self.new.sums ≡ total_of self.old.sums + row.now.cost) }
         ensures err { OnErr result (self.new ≡ self.old) }

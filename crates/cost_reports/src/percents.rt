@@ -1,5 +1,6 @@
 // Parts of a total in percent.
-ghost use Rattle.std.specs.Prelude.{◌≡◌, ◌++◌, ◌<◌, ◌^◌, OnOk};
+ghost use Rattle.std.specs.Prelude.{◌≡◌, ◌++◌, ◌<◌, OnOk};
+ghost use Rattle.cost_rows.specs.KeySums.{sum_end};
 ghost use Rattle.report_texts.specs.Percents.{hundredths, percent};
 
 use crate::numbers::push_number;
@@ -7,7 +8,7 @@ use std::alloc::AllocError;
 
 /// A cost in hundredths of a percent of a total, rounded down, and 0 of nothing.
 fn hundredths(cost: u128, total: u128) -> u128
-    requires { cost < 2 ^ 112 }
+    requires { cost < sum_end }
     ensures { result ≡ hundredths cost total }
 {
     if total == 0 { 0 } else { 10_000 * cost / total }
@@ -15,7 +16,7 @@ fn hundredths(cost: u128, total: u128) -> u128
 
 /// Adds a cost in percent of a total, with two decimals.
 pub(crate) fn push_percent(text: &mut Vec<u8>, cost: u128, total: u128) -> Result<(), AllocError>
-    requires { cost < 2 ^ 112 }
+    requires { cost < sum_end }
     ensures { OnOk result (text.new.items ≡ text.old.items ++ percent cost total) }
 {
     let n = hundredths(cost, total);

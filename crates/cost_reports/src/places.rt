@@ -4,6 +4,7 @@ ghost use Rattle.cost_rows.specs.Keys.{lent_place, place_of_row};
 ghost use Rattle.cost_rows.specs.Plain.{plain_cell};
 ghost use Rattle.report_texts.specs.Functions.{function_spot};
 
+use cg_text::UNKNOWN;
 use cost_rows::{CellRow, LentPlace};
 
 /// The place of a row.
@@ -25,7 +26,7 @@ pub(crate) fn function_place<'a>(object: &'a [u8], function: &'a [u8]) -> LentPl
 {
     LentPlace {
         object,
-        file: b"???",
+        file: UNKNOWN,
         function,
         line: 0,
         thread: 0,

@@ -1,6 +1,6 @@
 // Sums in the order of a report, cut.
-ghost use Rattle.std.specs.Prelude.{◌≡◌, ◌*◌, ◌≤◌, ◌<◌, ◌^◌, IfOk, take};
-ghost use Rattle.cost_rows.specs.KeySums.{total_of};
+ghost use Rattle.std.specs.Prelude.{◌≡◌, ◌*◌, ◌≤◌, ◌<◌, IfOk, take};
+ghost use Rattle.cost_rows.specs.KeySums.{total_of, sum_end};
 ghost use Rattle.report_texts.specs.KeyReports.{rank_cmp, reaching, limited};
 ghost use Rattle.report_texts.specs.Ranking.{ranked};
 ghost use Rattle.cost_rows.specs.Plain.{plain_cell};
@@ -71,7 +71,7 @@ pub(crate) fn ranked_rows<'n>(
 
 /// How many rows it takes until they sum to a hundredth of what is needed.
 fn count_reaching(rows: &[Row<'_>], need: u128) -> usize
-    requires { total_of (plain_rows rows.now) < 2 ^ 112 }
+    requires { total_of (plain_rows rows.now) < sum_end }
     ensures { plain_rows (take result rows.now) ≡ reaching need 0 (plain_rows rows.now) }
 {
     let mut before = 0;
@@ -86,7 +86,7 @@ fn count_reaching(rows: &[Row<'_>], need: u128) -> usize
 
 /// Keeps rows until they sum to a hundredth of what is needed.
 fn keep_enough(rows: &mut Vec<Row<'_>>, need: u128)
-    requires { total_of (plain_rows rows.old.items) < 2 ^ 112 }
+    requires { total_of (plain_rows rows.old.items) < sum_end }
     ensures { plain_rows rows.new.items ≡ reaching need 0 (plain_rows rows.old.items) }
 {
     let count = count_reaching(rows, need);
@@ -109,7 +109,7 @@ pub(crate) fn shown_rows<'a>(
     total: u128,
     cut: Cut,
 ) -> Result<Vec<Row<'a>>, AllocError>
-    requires small { total < 2 ^ 112 }
+    requires small { total < sum_end }
     requires within { total_of (given_sums sums.now) ≤ total }
     ensures shown { IfOk result (λ rows. plain_rows rows.items ≡ shown_of cut total (given_sums sums.now)) }
     ensures within { IfOk result (λ rows. total_of (plain_rows rows.items) ≤ total) }
@@ -123,7 +123,7 @@ pub(crate) fn shown_rows<'a>(
 
 /// What rows sum to.
 pub(crate) fn cost_of(rows: &[Row<'_>]) -> u128
-    requires { total_of (plain_rows rows.now) < 2 ^ 112 }
+    requires { total_of (plain_rows rows.now) < sum_end }
     ensures { result ≡ total_of (plain_rows rows.now) }
 {
     let mut sum = 0;

@@ -1,5 +1,5 @@
 -- Sums by key, and what a row adds to them.
-use Rattle.std.specs.Prelude.{◌≡◌, ℕ, ◌+◌, ◌<◌, Bool, List, [], ◌∷◌, fold, nat_eq, if◌then◌else◌}
+use Rattle.std.specs.Prelude.{◌≡◌, ℕ, ◌+◌, ◌<◌, ◌^◌, Bool, List, [], ◌∷◌, fold, nat_eq, if◌then◌else◌}
 use Rattle.std.specs.List.{AllByRecursion}
 use Rattle.std.specs.List.Sorted.{IsStrictlySortedBy}
 use Rattle.std.specs.Map.{keys_of, values_of}
@@ -9,6 +9,10 @@ use Rattle.cost_rows.specs.Merging.{merge, sum_of_all, sum_where}
 use Rattle.cost_rows.specs.Stacks.{counts_added}
 use Rattle.cost_rows.specs.declared.keys.Key.{Key}
 use Rattle.cost_rows.specs.declared.rows.CellRow.{CellRow}
+
+-- sums of reports stay below this
+abbrev pub sum_end : ℕ
+sum_end = 2 ^ 112
 
 -- what rows are added up by, and a sum for each part of a place, in order
 pub record Sums : Type 0 where

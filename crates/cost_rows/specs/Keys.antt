@@ -1,5 +1,5 @@
 -- What rows are added up by, and the part of a place that a key tells.
-use Rattle.std.specs.Prelude.{ℕ, List}
+use Rattle.std.specs.Prelude.{ℕ, List, codes}
 use Rattle.std.specs.declared.cmp.Ordering.{Ordering}
 use Rattle.std.specs.Ordering.{nat_cmp, ordering_then}
 use Rattle.cg_text.specs.Names.{unknown}
@@ -11,6 +11,14 @@ use Rattle.cost_rows.specs.declared.keys.LentPlace.{LentPlace}
 use Rattle.cost_rows.specs.declared.keys.Part.{Part}
 use Rattle.cost_rows.specs.declared.rows.CellRow.{CellRow}
 use Rattle.cost_rows.specs.declared.keys.Key.TheVariants.{Object, File, Function, Line, Thread}
+
+-- the word of a key
+abbrev pub key_name : Key → List ℕ
+key_name Object = codes "object"
+key_name File = codes "file"
+key_name Function = codes "function"
+key_name Line = codes "line"
+key_name Thread = codes "thread"
 
 -- the part of a place that a key tells; the others are unknown
 abbrev pub part_of : Key → Spot → Spot

@@ -1,9 +1,10 @@
 // What reports are made by.
 ghost use Rattle.std.specs.Prelude.{◌≡◌, IfOk};
-ghost use Rattle.cost_rows.specs.Keys.{part_of, lent_place, plain_place, place_of_row};
+ghost use Rattle.cost_rows.specs.Keys.{key_name, part_of, lent_place, plain_place, place_of_row};
 ghost use Rattle.cost_rows.specs.Plain.{plain_cell};
 
 use crate::rows::CellRow;
+use cg_text::UNKNOWN;
 use std::alloc::{AllocError, Global};
 
 /// What rows are added up by: objects; files; functions, each of its object; lines, each of its file;
@@ -28,11 +29,24 @@ pub struct LentPlace<'a> {
 }
 
 impl Key {
+    /// The word for it.
+    pub fn name(self) -> &'static [u8]
+        ensures { result.now ≡ key_name self }
+    {
+        match self {
+            Key::Object => b"object",
+            Key::File => b"file",
+            Key::Function => b"function",
+            Key::Line => b"line",
+            Key::Thread => b"thread",
+        }
+    }
+
     /// The part of a row's place that the key tells.
     pub fn part<'a>(self, row: &CellRow<&'a [u8]>) -> LentPlace<'a>
         ensures { lent_place result ≡ part_of self (place_of_row (plain_cell row.now)) }
     {
-        let unknown = b"???".as_slice();
+        let unknown = UNKNOWN;
         let (object, file, function, line, thread) = match self {
             Key::Object => (row.object, unknown, unknown, 0, 0),
             Key::File => (unknown, row.file, unknown, 0, 0),

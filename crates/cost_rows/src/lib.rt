@@ -59,7 +59,7 @@ pub use laws::{
     rows_sum_to_the_records, rows_sum_to_the_stacks, walked_rows_sum_to_the_sums,
 };
 pub use limits::{Overflow, Side, admit};
-pub use merged::Merged;
+pub use merged::{Merged, SUM_END};
 pub use merging::merge_cost;
 pub use names::Names;
 pub use numbered::{CallSum, CallsByPlace, CellSum, CellsByPlace, NumberedCalls, NumberedCells};

@@ -1,9 +1,9 @@
 // Rows of many files, added up by key.
-ghost use Rattle.std.specs.Prelude.{◌≡◌, ◌+◌, ◌<◌, ◌^◌, OnOk, OnErr, [], length};
+ghost use Rattle.std.specs.Prelude.{◌≡◌, ◌+◌, ◌<◌, OnOk, OnErr, [], length};
 ghost use Rattle.std.specs.List.Sorted.{IsStrictlySortedBy};
 ghost use Rattle.std.specs.Map.{keys_of};
 ghost use Rattle.cost_rows.specs.Keys.{named_cmp, plain_sums};
-ghost use Rattle.cost_rows.specs.KeySums.{with_row, total_of, rows_of};
+ghost use Rattle.cost_rows.specs.KeySums.{with_row, total_of, rows_of, sum_end};
 ghost use Rattle.cost_rows.specs.Plain.{plain_cell};
 
 use crate::keys::{Key, Part};
@@ -13,6 +13,9 @@ use crate::sum_rows::SumRows;
 use std::alloc::{AllocError, Global};
 use std::collections::BTreeMap;
 use std::marker::Model;
+
+/// Sums of reports stay below this: those of all files that a store can hold do.
+pub const SUM_END: u128 = 1 << 112;
 
 /// Rows of many files, added up by a key: contracts see the key, and a sum above 0 for each part of
 /// a place that it tells, in the order of the names' bytes and the line. An ordered map holds the sums: no file
@@ -24,7 +27,7 @@ pub struct Merged {
     sums: BTreeMap<Part, u128>,
     total: u128,
     ghost is_total: { total ≡ total_of (plain_sums sums.entries) },
-    ghost small: { total < 2 ^ 112 },
+    ghost small: { total < sum_end },
 }
 
 impl Model for Merged {
@@ -67,7 +70,7 @@ impl Merged {
     /// The sum of all costs that were added.
     pub fn total(&self) -> u128
         ensures value { result ≡ total_of self.now.sums }
-        ensures small { result < 2 ^ 112 }
+        ensures small { result < sum_end }
     {
         self.total
     }
@@ -75,7 +78,7 @@ impl Merged {
     /// Adds a row's cost to the sum of the part of its place that the key tells; a cost of 0 adds
     /// nothing. A refusal leaves the sums as they were.
     pub fn add(&mut self, row: &CellRow<&[u8]>) -> Result<(), AllocError>
-        requires small { total_of self.old.sums + row.now.cost < 2 ^ 112 }
+        requires small { total_of self.old.sums + row.now.cost < sum_end }
         ensures ok { OnOk result (self.new ≡ with_row self.old (plain_cell row.now)) }
         ensures total { OnOk result (total_of self.new.sums ≡ total_of self.old.sums + row.now.cost) }
         ensures err { OnErr result (self.new ≡ self.old) }

@@ -22,6 +22,7 @@ use crate::numbering::number_place;
 use crate::places::{Call, CellPlace};
 use crate::sum_map::SumMap;
 use crate::trimmed::trimmed;
+use cg_text::UNKNOWN;
 use profile_records::{CallCost, SelfCost};
 use std::alloc::AllocError;
 
@@ -91,7 +92,7 @@ fn add_leaf(
     ensures err { OnErr result (cells.new ≡ cells.old) }
 {
     let guess = guesses.guess(names, function);
-    let place = number_place(names, guess, b"???", b"???", function, 0)?;
+    let place = number_place(names, guess, UNKNOWN, UNKNOWN, function, 0)?;
     guesses.keep(place)?;
     cells.merge(CellPlace { place, thread: 0 }, trimmed(costs))
 }

@@ -1,6 +1,7 @@
 -- What a request asks for.
 use Rattle.std.specs.Prelude.{ℕ, Bool, true, false, if◌then◌else◌, List, [], codes, get_or, Option, Some, None, Result, Ok, Err}
 use Rattle.percent_encoding.specs.Percent.{percent_decode}
+use Rattle.cg_text.specs.Names.{unknown}
 use Rattle.cost_rows.specs.declared.keys.Key.{Key}
 use Rattle.report_texts.specs.declared.call_sides.CallSide.{CallSide}
 use Rattle.report_texts.specs.declared.cuts.Cut.{Cut}
@@ -84,7 +85,7 @@ cut_by given =
 
 abbrev pub object_in : Option (List ℕ) → List ℕ
 object_in (Some value) = percent_decode value
-object_in None = codes "???"
+object_in None = unknown
 
 abbrev pub import_by : Kind → Given → Result PathCommand Failing
 import_by kind given = and_then (text_of (value_of is.Label given)) (λ label. Ok (asks.Import kind label tt))

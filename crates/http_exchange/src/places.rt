@@ -14,7 +14,7 @@ use crate::names::Name;
 use crate::numbers::{LIMIT_BOUND, RUN_BOUND, THRESHOLD_BOUND, number, run_in_path};
 use crate::parameters::Given;
 use crate::texts::part;
-use cg_text::ListVec;
+use cg_text::{ListVec, UNKNOWN};
 use cost_rows::Key;
 use percent_encoding::percent_decode;
 use profile_records::Kind;
@@ -393,7 +393,7 @@ fn object(alloc: Global, value: Option<&[u8]>) -> Result<ListVec<u8>, Failing>
 {
     match value {
         Some(value) => decoded(alloc, value),
-        None => match Vec::from_slice(alloc, b"???") {
+        None => match Vec::from_slice(alloc, UNKNOWN) {
             Ok(bytes) => Ok(ListVec::from_vec(bytes)),
             Err(AllocError) => Err(Failing::NoMemory),
         },

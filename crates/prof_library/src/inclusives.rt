@@ -1,6 +1,6 @@
 // What functions cost with all that they call.
-ghost use Rattle.std.specs.Prelude.{◌≡◌, ◌+◌, ◌∷◌, [], ◌<◌, ◌^◌, fold, OnOk, IfOk};
-ghost use Rattle.cost_rows.specs.KeySums.{rows_of, total_of, with_row};
+ghost use Rattle.std.specs.Prelude.{◌≡◌, ◌+◌, ◌∷◌, [], ◌<◌, fold, OnOk, IfOk};
+ghost use Rattle.cost_rows.specs.KeySums.{rows_of, total_of, with_row, sum_end};
 ghost use Rattle.cost_rows.specs.declared.keys.Key.TheVariants.{Function};
 ghost use Rattle.report_texts.specs.Calls.{calls_of_row};
 ghost use Rattle.report_texts.specs.Functions.{function_spot, is_one_function};
@@ -10,6 +10,7 @@ ghost use Rattle.cost_rows.specs.Plain.{plain_cell};
 ghost use Rattle.prof_library.specs.Given.{calls_in, cost_of, plain_cells, plain_stacks};
 
 use crate::keys::add_cells;
+use cg_text::UNKNOWN;
 use cost_reports::{InclusiveReport, InclusiveSums, LentSums, functions_in};
 use cost_rows::{ArcRow, CellRow, Key, StackRow};
 use std::alloc::{AllocError, Global};
@@ -21,7 +22,7 @@ fn cost_at<'n>(object: &'n [u8], function: &'n [u8], cost: u128) -> CellRow<&'n 
 {
     CellRow {
         object,
-        file: b"???",
+        file: UNKNOWN,
         function,
         line: 0,
         thread: 0,
@@ -39,7 +40,7 @@ fn is_recursive(row: &ArcRow<&[u8], u128>) -> bool
 
 /// Adds what calls cost, if they are to another function.
 fn add_arc<'n>(sums: &mut LentSums<'n>, row: &ArcRow<&'n [u8], u128>) -> Result<(), AllocError>
-    requires small { total_of sums.old.sums + total_of (outward_costs (calls_of_row row.now ∷ [])) < 2 ^ 112 }
+    requires small { total_of sums.old.sums + total_of (outward_costs (calls_of_row row.now ∷ [])) < sum_end }
     ensures sums { OnOk result (sums.new ≡ fold with_row sums.old (rows_of (outward_costs (calls_of_row row.now ∷ [])))) }
     ensures total { OnOk result (total_of sums.new.sums ≡ total_of sums.old.sums + total_of (outward_costs (calls_of_row row.now ∷ []))) }
 {
@@ -51,7 +52,7 @@ fn add_arc<'n>(sums: &mut LentSums<'n>, row: &ArcRow<&'n [u8], u128>) -> Result<
 
 /// Adds what calls to other functions cost.
 fn add_arcs<'n>(sums: &mut LentSums<'n>, rows: &[ArcRow<&'n [u8], u128>]) -> Result<(), AllocError>
-    requires small { total_of sums.old.sums + total_of (outward_costs (calls_in rows.now)) < 2 ^ 112 }
+    requires small { total_of sums.old.sums + total_of (outward_costs (calls_in rows.now)) < sum_end }
     ensures sums { OnOk result (sums.new ≡ fold with_row sums.old (rows_of (outward_costs (calls_in rows.now)))) }
     ensures total { OnOk result (total_of sums.new.sums ≡ total_of sums.old.sums + total_of (outward_costs (calls_in rows.now))) }
 {
@@ -67,12 +68,12 @@ fn add_functions<'n>(
     functions: &BTreeSet<&'n [u8]>,
     count: u128,
 ) -> Result<(), AllocError>
-    requires small { total_of sums.old.sums + total_of (names_costs count (names_in functions.now.keys)) < 2 ^ 112 }
+    requires small { total_of sums.old.sums + total_of (names_costs count (names_in functions.now.keys)) < sum_end }
     ensures sums { OnOk result (sums.new ≡ fold with_row sums.old (rows_of (names_costs count (names_in functions.now.keys)))) }
     ensures total { OnOk result (total_of sums.new.sums ≡ total_of sums.old.sums + total_of (names_costs count (names_in functions.now.keys))) }
 {
     for function in functions.iter() {
-        sums.add(&cost_at(b"???", *function, count))?;
+        sums.add(&cost_at(UNKNOWN, *function, count))?;
     }
     Ok(())
 }
@@ -83,7 +84,7 @@ fn add_stacks<'n>(
     sums: &mut LentSums<'n>,
     rows: &[StackRow<&'n [u8]>],
 ) -> Result<(), AllocError>
-    requires small { total_of sums.old.sums + total_of (row_costs (plain_stacks rows.now)) < 2 ^ 112 }
+    requires small { total_of sums.old.sums + total_of (row_costs (plain_stacks rows.now)) < sum_end }
     ensures sums { OnOk result (sums.new ≡ fold with_row sums.old (rows_of (row_costs (plain_stacks rows.now)))) }
     ensures total { OnOk result (total_of sums.new.sums ≡ total_of sums.old.sums + total_of (row_costs (plain_stacks rows.now))) }
 {
@@ -96,7 +97,7 @@ fn add_stacks<'n>(
 
 /// What stacks count.
 fn count_of(rows: &[StackRow<&[u8]>]) -> u128
-    requires { rows_count (plain_stacks rows.now) < 2 ^ 112 }
+    requires { rows_count (plain_stacks rows.now) < sum_end }
     ensures { result ≡ rows_count (plain_stacks rows.now) }
 {
     let mut count = 0;

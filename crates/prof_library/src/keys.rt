@@ -1,6 +1,6 @@
 // Reports by key, and differences.
-ghost use Rattle.std.specs.Prelude.{◌≡◌, ◌+◌, ◌∷◌, ◌<◌, ◌^◌, [], fold, OnOk, IfOk};
-ghost use Rattle.cost_rows.specs.KeySums.{sums_by, total_of, with_row};
+ghost use Rattle.std.specs.Prelude.{◌≡◌, ◌+◌, ◌∷◌, ◌<◌, [], fold, OnOk, IfOk};
+ghost use Rattle.cost_rows.specs.KeySums.{sums_by, total_of, with_row, sum_end};
 ghost use Rattle.cost_rows.specs.Plain.{plain_cell};
 ghost use Rattle.cost_rows.specs.Keys.{lent_place};
 ghost use Rattle.report_texts.specs.Differences.{difference_of};
@@ -17,7 +17,7 @@ pub(crate) fn add_cells<'n>(
     sums: &mut LentSums<'n>,
     rows: &[CellRow<&'n [u8]>],
 ) -> Result<(), AllocError>
-    requires small { total_of sums.old.sums + cost_of (plain_cells rows.now) < 2 ^ 112 }
+    requires small { total_of sums.old.sums + cost_of (plain_cells rows.now) < sum_end }
     ensures sums { OnOk result (sums.new ≡ fold with_row sums.old (plain_cells rows.now)) }
     ensures total { OnOk result (total_of sums.new.sums ≡ total_of sums.old.sums + cost_of (plain_cells rows.now)) }
 {
@@ -33,7 +33,7 @@ fn sums_of<'n>(
     key: Key,
     rows: &[CellRow<&'n [u8]>],
 ) -> Result<LentSums<'n>, AllocError>
-    requires small { cost_of (plain_cells rows.now) < 2 ^ 112 }
+    requires small { cost_of (plain_cells rows.now) < sum_end }
     ensures key { IfOk result (λ sums. sums.key ≡ key) }
     ensures sums { IfOk result (λ sums. sums.sums ≡ sums_by key (plain_cells rows.now)) }
 {
@@ -75,7 +75,7 @@ pub fn by<'n>(
     rows: &[CellRow<&'n [u8]>],
     cut: Cut,
 ) -> Result<Report<'n>, AllocError>
-    requires small { cost_of (plain_cells rows.now) < 2 ^ 112 }
+    requires small { cost_of (plain_cells rows.now) < sum_end }
     ensures { IfOk result (λ report. report ≡ report_of key cut (sums_by key (plain_cells rows.now))) }
 {
     let sums = sums_of(alloc, key, rows)?;
@@ -90,8 +90,8 @@ pub fn subtract<'n>(
     first: &[CellRow<&'n [u8]>],
     second: &[CellRow<&'n [u8]>],
 ) -> Result<Difference<'n>, AllocError>
-    requires first { cost_of (plain_cells first.now) < 2 ^ 112 }
-    requires second { cost_of (plain_cells second.now) < 2 ^ 112 }
+    requires first { cost_of (plain_cells first.now) < sum_end }
+    requires second { cost_of (plain_cells second.now) < sum_end }
     ensures { IfOk result (λ difference. difference ≡ difference_of key (sums_by key (plain_cells first.now)) (sums_by key (plain_cells second.now))) }
 {
     let first = sums_of(alloc, key, first)?;

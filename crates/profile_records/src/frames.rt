@@ -2,13 +2,14 @@
 ghost use Rattle.std.specs.Prelude.{◌≡◌};
 ghost use Rattle.profile_records.specs.Frames.{function_of, leaf_of, behind_semicolon};
 
+use cg_text::UNKNOWN;
 use memchr::memrchr;
 
 /// The function of a frame: `???` where it has no name.
-fn function(frame: &[u8]) -> &[u8]
+pub fn function(frame: &[u8]) -> &[u8]
     ensures { result.now ≡ function_of frame.now }
 {
-    if frame.is_empty() { b"???" } else { frame }
+    if frame.is_empty() { UNKNOWN } else { frame }
 }
 
 /// The last frame.

@@ -16,7 +16,7 @@ mod sink;
 mod stack_sink;
 
 pub use columns::add_costs;
-pub use frames::leaf;
+pub use frames::{function, leaf};
 pub use kinds::Kind;
 pub use marks::{LentName, LentNames, Mark};
 pub use sink::{CallCost, SelfCost, Sink};

@@ -8,7 +8,8 @@ use Rattle.cost_rows.specs.Keys.{named_cmp}
 use Rattle.cost_rows.specs.Sums.{Spot}
 use Rattle.cost_rows.specs.declared.keys.Key.{Key}
 use Rattle.byte_io.specs.Escapes.{escaped}
-use Rattle.report_texts.specs.KeyTexts.{key_name, part_text}
+use Rattle.cost_rows.specs.Keys.{key_name}
+use Rattle.report_texts.specs.KeyTexts.{part_text}
 use Rattle.report_texts.specs.Pairs.{pairs_by}
 use Rattle.report_texts.specs.Ranking.{ranked}
 use Rattle.report_texts.specs.declared.differences.Side.{Side}

@@ -1,19 +1,13 @@
 -- The text of a report by key.
 use Rattle.std.specs.Prelude.{ℕ, List, ◌++◌, flat_map, codes}
 use Rattle.std.specs.Fmt.{decimal}
+use Rattle.cost_rows.specs.Keys.{key_name}
 use Rattle.cost_rows.specs.Sums.{Spot}
 use Rattle.cost_rows.specs.declared.keys.Key.{Key}
 use Rattle.cost_rows.specs.declared.keys.Key.TheVariants.{Object, File, Function, Line, Thread}
 use Rattle.byte_io.specs.Escapes.{escaped}
 use Rattle.report_texts.specs.KeyReports.{ReportByKey}
 use Rattle.report_texts.specs.Percents.{percent}
-
-abbrev pub key_name : Key → List ℕ
-key_name Object = codes "object"
-key_name File = codes "file"
-key_name Function = codes "function"
-key_name Line = codes "line"
-key_name Thread = codes "thread"
 
 -- the part of a place that a key tells, as it is printed
 abbrev pub part_text : Key → Spot → List ℕ

@@ -1,8 +1,9 @@
 -- Two sums side by side for each place, and what is added to them.
-use Rattle.std.specs.Prelude.{ℕ, ◌+◌, ◌<◌, ◌^◌, true, List, []}
+use Rattle.std.specs.Prelude.{ℕ, ◌+◌, ◌<◌, true, List, []}
 use Rattle.cost_rows.specs.Keys.{named_cmp}
 use Rattle.cost_rows.specs.Merging.{merge, merge_all, sum_where}
 use Rattle.cost_rows.specs.Sums.{Spot}
+use Rattle.cost_rows.specs.KeySums.{sum_end}
 use Rattle.report_texts.specs.declared.pairs.Pair.{Pair}
 
 abbrev pub pairs_added : Pair → Pair → Pair
@@ -27,5 +28,5 @@ pair_total sums = record { first = firsts_of sums; second = seconds_of sums }
 
 -- both sum to less than a report may show
 pub record AreBelow (m n : ℕ) : Type 0 where
-  pub first : m < 2 ^ 112
-  pub second : n < 2 ^ 112
+  pub first : m < sum_end
+  pub second : n < sum_end

@@ -8,12 +8,9 @@ ghost use Rattle.run_lists.specs.Sums.{calls_sum, placed_sum, self_sum};
 
 use crate::listed::{ListedEvent, ListedRun, RunLists};
 use cg_text::ListVec;
-use cost_rows::FileTotals;
+use cost_rows::{FileTotals, SUM_END};
 use plain_tables::StoreError;
 use std::alloc::{AllocError, Global};
-
-/// Sums from this on, 2^112, are refused.
-const SUM_END: u128 = 1 << 112;
 
 /// Sums of events: of self costs, and of the costs of calls.
 #[derive(Clone, Copy)]

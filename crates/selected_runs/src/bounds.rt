@@ -1,33 +1,31 @@
 // What rows cost in the event that is asked. Tables that another program filled may say anything, so each
 // sum is compared with its bound.
-ghost use Rattle.std.specs.Prelude.{◌≡◌, ◌+◌, ◌*◌, ◌<◌, ◌≤◌, ◌^◌, false, None, IfSome, IsTrue, slice_index};
+ghost use Rattle.std.specs.Prelude.{◌≡◌, ◌+◌, ◌*◌, ◌<◌, ◌≤◌, false, None, IfSome, IsTrue, slice_index};
 ghost use Rattle.cost_rows.specs.Plain.{plain_cell};
+ghost use Rattle.cost_rows.specs.KeySums.{sum_end};
 ghost use Rattle.report_texts.specs.Costs.{weighted};
 
-use cost_rows::CellRow;
-
-/// The greatest sum of a report, and one more.
-const TOO_MUCH: u128 = 1 << 112;
+use cost_rows::{CellRow, SUM_END};
 
 /// Whether what is there and more of it stay within the bound.
 pub fn is_within(before: u128, more: u128) -> bool
-    ensures within { IsTrue result → before + more < 2 ^ 112 }
-    ensures past { result ≡ false → 2 ^ 112 ≤ before + more }
+    ensures within { IsTrue result → before + more < sum_end }
+    ensures past { result ≡ false → sum_end ≤ before + more }
 {
     match before.checked_add(more) {
-        Some(total) => total < TOO_MUCH,
+        Some(total) => total < SUM_END,
         None => false,
     }
 }
 
 /// What a row costs that counts so often, where that and the costs before it stay within the bound.
 pub fn cost_within(before: u128, times: u64, cost: u128) -> Option<u128>
-    ensures within { IfSome result (λ n. (n ≡ times * cost) × (before + n < 2 ^ 112)) }
-    ensures past { result ≡ None → 2 ^ 112 ≤ before + times * cost }
+    ensures within { IfSome result (λ n. (n ≡ times * cost) × (before + n < sum_end)) }
+    ensures past { result ≡ None → sum_end ≤ before + times * cost }
 {
     let cost = u128::from(times).checked_mul(cost)?;
     let total = before.checked_add(cost)?;
-    if total < TOO_MUCH { Some(cost) } else { None }
+    if total < SUM_END { Some(cost) } else { None }
 }
 
 /// How often a column counts: past the last one it does not.
@@ -45,8 +43,8 @@ pub fn weighted_within<'a>(
     row: &CellRow<&'a [u8]>,
 ) -> Option<CellRow<&'a [u8]>>
     ensures row { IfSome result (λ cell. plain_cell cell ≡ weighted counts.now (plain_cell row.now)) }
-    ensures within { IfSome result (λ cell. before + cell.cost < 2 ^ 112) }
-    ensures past { result ≡ None → 2 ^ 112 ≤ before + (weighted counts.now (plain_cell row.now)).cost }
+    ensures within { IfSome result (λ cell. before + cell.cost < sum_end) }
+    ensures past { result ≡ None → sum_end ≤ before + (weighted counts.now (plain_cell row.now)).cost }
 {
     let cost = cost_within(before, times_of(counts, row.event), row.cost)?;
     Some(CellRow {

@@ -1,8 +1,8 @@
 // The sums with their names.
-ghost use Rattle.std.specs.Prelude.{◌≡◌, ◌<◌, ◌^◌, List, [], map, IfOk, OnOk, MatchResult};
+ghost use Rattle.std.specs.Prelude.{◌≡◌, ◌<◌, List, [], map, IfOk, OnOk, MatchResult};
 ghost use Rattle.std.specs.List.{AllByRecursion};
 ghost use Rattle.cost_reports.specs.Rows.{sum_of_row};
-ghost use Rattle.cost_rows.specs.KeySums.{sums_by};
+ghost use Rattle.cost_rows.specs.KeySums.{sums_by, sum_end};
 ghost use Rattle.cost_rows.specs.Plain.{plain_cell};
 ghost use Rattle.plain_tables.specs.Tables.{NameRow};
 ghost use Rattle.plain_tables.specs.declared.errors.StoreError.TheVariants.{Store};
@@ -15,6 +15,7 @@ use crate::held_name;
 use crate::part_sums::PartSums;
 use crate::parts::NumberPart;
 use crate::sums::NumberSums;
+use cg_text::UNKNOWN;
 use cost_reports::LentSums;
 use cost_rows::{CellRow, Key};
 use run_stores::{NameTable, StoreError};
@@ -32,7 +33,7 @@ pub(crate) fn named_row<'n, N: NameTable>(
     ensures held { MatchResult result (λ _. AllByRecursion (IsHeld (N.name_rows names.now)) (told key part.now))
         (λ error. (error ≡ Store) × ¬ (AllByRecursion (IsHeld (N.name_rows names.now)) (told key part.now))) }
 {
-    let unknown = b"???".as_slice();
+    let unknown = UNKNOWN;
     let (object, file, function, line, thread) = match key {
         Key::Object => (held_name(names, part.object)?, unknown, unknown, 0, 0),
         Key::File => (unknown, held_name(names, part.file)?, unknown, 0, 0),
@@ -63,7 +64,7 @@ fn add_named<'n, N: NameTable>(
 ) -> Result<(), StoreError>
     requires key { merged.old.key ≡ key }
     requires none { merged.old.sums ≡ [] }
-    requires small { numbers_total sums.now < 2 ^ 112 }
+    requires small { numbers_total sums.now < sum_end }
     ensures key { merged.new.key ≡ key }
     ensures sums { OnOk result (merged.new ≡ merged_by (N.name_rows names.now) key sums.now) }
     ensures held { OnOk result (AllByRecursion (IsHeld (N.name_rows names.now)) (numbers_told key sums.now)) }
@@ -82,7 +83,7 @@ fn merge_named<'n, N: NameTable>(
     key: Key,
     sums: &PartSums,
 ) -> Result<LentSums<'n>, StoreError>
-    requires small { numbers_total sums.now < 2 ^ 112 }
+    requires small { numbers_total sums.now < sum_end }
     ensures key { IfOk result (λ merged. merged.key ≡ key) }
     ensures sums { IfOk result (λ merged. merged ≡ merged_by (N.name_rows names.now) key sums.now) }
     ensures held { IfOk result (λ _. AllByRecursion (IsHeld (N.name_rows names.now)) (numbers_told key sums.now)) }

@@ -1,9 +1,10 @@
 // Sums by number, the greatest cost first: all, or those that a cut can show.
-ghost use Rattle.std.specs.Prelude.{◌≡◌, ◌≤◌, ◌<◌, ◌^◌, [], ◌∷◌, ◌++◌, length, map, IfOk, OnOk, MatchResult, IsPermutation};
+ghost use Rattle.std.specs.Prelude.{◌≡◌, ◌≤◌, ◌<◌, [], ◌∷◌, ◌++◌, length, map, IfOk, OnOk, MatchResult, IsPermutation};
 ghost use Rattle.std.specs.List.{AllByRecursion};
 ghost use Rattle.cost_reports.specs.Enough.{AreEnough};
 ghost use Rattle.cost_reports.specs.Rows.{sum_of_row};
 ghost use Rattle.cost_rows.specs.Plain.{plain_cell};
+ghost use Rattle.cost_rows.specs.KeySums.{sum_end};
 ghost use Rattle.plain_tables.specs.declared.errors.StoreError.TheVariants.{Store};
 ghost use Rattle.run_stores.specs.Book.{IsHeld};
 ghost use Rattle.selected_runs.specs.Named.{named_sum};
@@ -30,7 +31,7 @@ fn rank(rows: &mut Vec<PartSum>)
 
 /// How many rows it takes until there are as many as a limit, or they sum to a hundredth of what is needed.
 fn count_reaching(rows: &[PartSum], need: u128, limit: Option<u64>) -> usize
-    requires { numbers_total (sums_of rows.now) < 2 ^ 112 }
+    requires { numbers_total (sums_of rows.now) < sum_end }
     ensures { Reached need limit (sums_of rows.now) result }
 {
     let mut before = 0;
@@ -131,7 +132,7 @@ pub struct RankedSums {
     total: u128,
     ghost falling: { CostsFall (sums_of rows.items) },
     ghost within: { numbers_total (sums_of rows.items) ≤ total },
-    ghost small: { total < 2 ^ 112 },
+    ghost small: { total < sum_end },
 }
 
 impl Model for RankedSums {
@@ -168,7 +169,7 @@ impl RankedSums {
     pub fn total(&self) -> u128
         ensures value { result ≡ self.now.total }
         ensures within { numbers_total self.now.sums ≤ result }
-        ensures small { result < 2 ^ 112 }
+        ensures small { result < sum_end }
     {
         self.total
     }

@@ -1,5 +1,6 @@
 // What rows cost, added up by the numbers of their names.
-ghost use Rattle.std.specs.Prelude.{◌≡◌, ◌+◌, ◌<◌, ◌^◌, OnOk, OnErr, []};
+ghost use Rattle.std.specs.Prelude.{◌≡◌, ◌+◌, ◌<◌, OnOk, OnErr, []};
+ghost use Rattle.cost_rows.specs.KeySums.{sum_end};
 ghost use Rattle.selected_runs.specs.Sums.{numbers_total, with_number};
 
 use crate::part_sums::PartSums;
@@ -17,7 +18,7 @@ pub struct NumberSums {
     pub(crate) sums: PartSums,
     pub(crate) total: u128,
     ghost is_total: { total ≡ numbers_total sums },
-    ghost small: { total < 2 ^ 112 },
+    ghost small: { total < sum_end },
 }
 
 impl Model for NumberSums {
@@ -51,7 +52,7 @@ impl NumberSums {
     /// The sum of all costs that were added.
     pub fn total(&self) -> u128
         ensures value { result ≡ numbers_total self.now.sums }
-        ensures small { result < 2 ^ 112 }
+        ensures small { result < sum_end }
     {
         self.total
     }
@@ -59,7 +60,7 @@ impl NumberSums {
     /// Adds a row's cost to the sum of the part of its place that the key tells; a cost of 0 adds nothing. A
     /// refusal leaves the sums as they were.
     pub fn add(&mut self, row: &CellRow<u32>) -> Result<(), AllocError>
-        requires small { numbers_total self.old.sums + row.now.cost < 2 ^ 112 }
+        requires small { numbers_total self.old.sums + row.now.cost < sum_end }
         ensures ok { OnOk result (self.new ≡ with_number self.old row.now) }
         ensures total { OnOk result (numbers_total self.new.sums ≡ numbers_total self.old.sums + row.now.cost) }
         ensures err { OnErr result (self.new ≡ self.old) }

@@ -7,6 +7,7 @@ ghost use Rattle.store_calls.specs.KeptCalls.{call_numbers, calls_named, kept_of
 
 use crate::asked_functions::AskedFunction;
 use crate::kept_rows::{KeptCall, KeptCalls};
+use cg_text::UNKNOWN;
 use cost_reports::CallSums;
 use cost_rows::ArcRow;
 use report_texts::CallSide;
@@ -37,7 +38,7 @@ fn named_call<'n, N: NameTable>(
         → calls_of_row row ≡ calls_named all side (spot_asked asked.entry) call.now) }
     ensures sum { IfOk result (λ row. (row.costs ≡ call.now.sum.first) × (row.count ≡ call.now.sum.second)) }
 {
-    let file = b"???".as_slice();
+    let file = UNKNOWN;
     let other = (
         held_name(names, call.object)?,
         held_name(names, call.function)?,

@@ -1,7 +1,7 @@
 // Rows that are added to inclusive costs in two parts, and both parts as one.
-ghost use Rattle.std.specs.Prelude.{◌≡◌, ◌+◌, ◌*◌, ◌<◌, ◌^◌, List, length, IfOk, OnOk};
+ghost use Rattle.std.specs.Prelude.{◌≡◌, ◌+◌, ◌*◌, ◌<◌, List, length, IfOk, OnOk};
 ghost use Rattle.std.specs.List.{AllByRecursion};
-ghost use Rattle.cost_rows.specs.KeySums.{total_of};
+ghost use Rattle.cost_rows.specs.KeySums.{total_of, sum_end};
 ghost use Rattle.cost_rows.specs.Plain.{plain_stack};
 ghost use Rattle.cost_rows.specs.declared.keys.Key.TheVariants.{Function};
 ghost use Rattle.report_texts.specs.Pairs.{AreBelow};
@@ -48,7 +48,7 @@ impl InclusiveParts {
         row: &ArcRow<u32, ListVec<u128>>,
         cost: u128,
     ) -> Result<(), AllocError>
-        requires small { numbers_total self.old.numbers.sums + cost < 2 ^ 112 }
+        requires small { numbers_total self.old.numbers.sums + cost < sum_end }
         ensures { OnOk result (sums_in self.new ≡ with_calls (sums_in self.old) row.now cost) }
     {
         self.numbers.add(&CellRow {
@@ -74,8 +74,8 @@ impl InclusiveParts {
 
     /// Adds a row of stacks.
     pub fn add_stack(&mut self, row: &StackRow<&[u8]>) -> Result<(), AllocError>
-        requires sum { total_of self.old.stacks.sums + (length row.now.stack.now + 1) * row.now.count < 2 ^ 112 }
-        requires total { self.old.stacks.total + row.now.count < 2 ^ 112 }
+        requires sum { total_of self.old.stacks.sums + (length row.now.stack.now + 1) * row.now.count < sum_end }
+        requires total { self.old.stacks.total + row.now.count < sum_end }
         ensures { OnOk result (sums_in self.new ≡ with_stacks (sums_in self.old) (plain_stack row.now)) }
     {
         self.stacks.add_stack(row)?;

@@ -1,5 +1,6 @@
 // What rows of calls and stacks cost in the event that is asked, within the bound of sums.
-ghost use Rattle.std.specs.Prelude.{◌≡◌, ◌+◌, ◌*◌, ◌<◌, ◌^◌, IfSome, slice_index};
+ghost use Rattle.std.specs.Prelude.{◌≡◌, ◌+◌, ◌*◌, ◌<◌, IfSome, slice_index};
+ghost use Rattle.cost_rows.specs.KeySums.{sum_end};
 ghost use Rattle.cg_formulas.specs.Formulas.{weighed};
 
 use selected_runs::cost_within;
@@ -13,7 +14,7 @@ fn cost_of(costs: &[u128], column: usize) -> u128
 
 /// What the costs of columns sum to, each as often as it counts, where that stays within the bound.
 pub(crate) fn weighed_within(counts: &[u64], costs: &[u128]) -> Option<u128>
-    ensures { IfSome result (λ n. (n ≡ weighed counts.now costs.now) × (n < 2 ^ 112)) }
+    ensures { IfSome result (λ n. (n ≡ weighed counts.now costs.now) × (n < sum_end)) }
 {
     let mut sum: u128 = 0;
     for column in 0..counts.len() {

@@ -1,5 +1,5 @@
-use Rattle.std.proofs.Common.{◌≡◌, ◌+◌, ◌<◌, ◌^◌, ℕ, List, fold, sum_by}
-use Rattle.cost_rows.specs.KeySums.{rows_of, total_of, with_row}
+use Rattle.std.proofs.Common.{◌≡◌, ◌+◌, ◌<◌, ℕ, List, fold, sum_by}
+use Rattle.cost_rows.specs.KeySums.{rows_of, total_of, with_row, sum_end}
 use Rattle.cost_rows.specs.declared.rows.CellRow.{CellRow}
 use Rattle.cost_reports.proofs.inclusives.add_sums.Given as goal
 
@@ -8,5 +8,5 @@ abbrev pub invariant-loop-row : goal.invariant-loop-row
 invariant-loop-row l = record {
   sums : fold with_row l.sums l.row-iterator ≡ fold with_row l.initial.sums (rows_of l.others.sums);
   key : l.sums.key ≡ l.initial.sums.key;
-  small : total_of l.sums.sums + sum_by (λ (r : CellRow (List ℕ)). r.cost) l.row-iterator < 2 ^ 112;
+  small : total_of l.sums.sums + sum_by (λ (r : CellRow (List ℕ)). r.cost) l.row-iterator < sum_end;
 }

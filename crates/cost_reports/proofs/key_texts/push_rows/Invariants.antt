@@ -1,5 +1,5 @@
-use Rattle.std.proofs.Common.{◌≡◌, ◌<◌, ◌^◌, ◌++◌, drop}
-use Rattle.cost_rows.specs.KeySums.{total_of}
+use Rattle.std.proofs.Common.{◌≡◌, ◌<◌, ◌++◌, drop}
+use Rattle.cost_rows.specs.KeySums.{total_of, sum_end}
 use Rattle.report_texts.specs.KeyTexts.{rows_text}
 use Rattle.byte_io.specs.Written.{written}
 use Rattle.cost_reports.specs.Rows.{plain_rows}
@@ -10,5 +10,5 @@ abbrev pub invariant-loop-row : goal.invariant-loop-row
 invariant-loop-row l = record {
   lines : written l.text ++ rows_text l.key l.total (plain_rows (drop l.row-index l.rows)) ≡ written l.initial.text ++ rows_text l.key l.total (plain_rows l.rows);
   most : l.text.most ≡ l.initial.text.most;
-  small : total_of (plain_rows (drop l.row-index l.rows)) < 2 ^ 112;
+  small : total_of (plain_rows (drop l.row-index l.rows)) < sum_end;
 }
