@@ -4,7 +4,7 @@ ghost use Rattle.sqlite_pool.specs.Pool as pools;
 ghost use Rattle.sqlite_pool.specs.Stored.{Keeps};
 ghost use Rattle.sqlite_rules.specs.Edit.{next_rowid};
 ghost use Rattle.sqlite_value.specs.declared.value.Value.TheVariants.{Int};
-ghost use Rattle.page_files.specs.Files.{IsUsable, OnlyReads};
+ghost use Rattle.page_files.specs.Files.{IsUsable, OnlyReads, LeavesUsable};
 ghost use Rattle.page_places.specs.Changes.{AreBelow, AtRows};
 ghost use Rattle.page_places.specs.Failures.{FailsToStore};
 ghost use Rattle.line_fills.specs.Causes.{HasRoom, HasRoomFrom};
@@ -86,8 +86,7 @@ pub fn fill<D: Disk, L: PageLine>(
     lines: &[L],
 ) -> Result<(), StoreError>
     ensures done { FillsTable file.old file.new place.now (map L.columns lines.now) result }
-    ensures usable { OnOk result (IsUsable file.new) }
-    ensures keeps { Keeps (pools.state file.old.pool) (pools.state file.new.pool) }
+    ensures leaves { LeavesUsable file.old file.new result }
 {
     let first = first_rowid(file, alloc, place, lines)?;
     append_rows(file, alloc, place.root, first, lines)?;

@@ -5,7 +5,7 @@ ghost use Rattle.sqlite_pool.specs.Stored.{Keeps};
 ghost use Rattle.sqlite_record.specs.Record.{decode};
 ghost use Rattle.sqlite_value.specs.declared.value.Value.TheVariants.{Text, Null};
 ghost use Rattle.prof_store.specs.Tables.{number};
-ghost use Rattle.page_files.specs.Files.{IsUsable};
+ghost use Rattle.page_files.specs.Files.{IsUsable, LeavesUsable};
 ghost use Rattle.page_changes.specs.Removed.{ClearsAll, ClearsOne, DropsWithin, IsNoBaseline, without_baselines};
 
 use crate::members::OfRun;
@@ -56,8 +56,7 @@ fn clear_one<D: Disk>(
     run: u32,
 ) -> Result<(), StoreError>
     ensures done { ClearsOne file.old file.new place.now rowid run result }
-    ensures usable { OnOk result (IsUsable file.new) }
-    ensures keeps { Keeps (pools.state file.old.pool) (pools.state file.new.pool) }
+    ensures leaves { LeavesUsable file.old file.new result }
 {
     let mut payload = Vec::new(alloc);
     match file.find_row(alloc, place.root, rowid, &mut payload) {
@@ -100,8 +99,7 @@ pub(crate) fn clear_baselines<D: Disk>(
     run: u32,
 ) -> Result<(), StoreError>
     ensures done { DropsWithin file.old file.new roots.now (without_baselines run) (IsNoBaseline run) result }
-    ensures usable { OnOk result (IsUsable file.new) }
-    ensures keeps { Keeps (pools.state file.old.pool) (pools.state file.new.pool) }
+    ensures leaves { LeavesUsable file.old file.new result }
 {
     let keys = [IndexPlace {
         root: roots.group_names,

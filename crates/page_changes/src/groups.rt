@@ -1,9 +1,7 @@
 // The changes of groups and members, each within a transaction.
 ghost use Rattle.std.specs.Prelude.{◌≡◌, IfErr, OnOk};
 ghost use Rattle.std.specs.List.{list_any};
-ghost use Rattle.sqlite_pool.specs.Pool as pools;
-ghost use Rattle.sqlite_pool.specs.Stored.{Keeps};
-ghost use Rattle.page_files.specs.Files.{IsUsable};
+ghost use Rattle.page_files.specs.Files.{IsUsable, LeavesUsable};
 ghost use Rattle.plain_tables.specs.Changes.{is_member, joined, with_baseline, with_group, without_group, without_member};
 ghost use Rattle.plain_tables.specs.Labels.{IsGroupName};
 ghost use Rattle.run_lists.specs.Listed.{member_row};
@@ -55,8 +53,7 @@ pub fn join<D: Disk>(
 ) -> Result<(), StoreError>
     ensures done { Changes file.old file.new roots.now lists.now (joined name.now run) result }
     ensures failed { IfErr result (FailsWithout file.old file.new roots.now lists.now (CanTakeIn file.old name.now run)) }
-    ensures usable { OnOk result (IsUsable file.new) }
-    ensures keeps { Keeps (pools.state file.old.pool) (pools.state file.new.pool) }
+    ensures leaves { LeavesUsable file.old file.new result }
 {
     if !lists.has_group(name) || !lists.has_run(run) {
         return Err(StoreError::Store);
@@ -79,8 +76,7 @@ pub fn put_group<D: Disk>(
     requires { IsGroupName name.now }
     ensures done { Changes file.old file.new roots.now lists.now (with_group name.now) result }
     ensures failed { IfErr result (FailsWithout file.old file.new roots.now lists.now (CanMake name.now)) }
-    ensures usable { OnOk result (IsUsable file.new) }
-    ensures keeps { Keeps (pools.state file.old.pool) (pools.state file.new.pool) }
+    ensures leaves { LeavesUsable file.old file.new result }
 {
     if lists.has_group(name) {
         return Err(StoreError::Store);
@@ -100,8 +96,7 @@ pub fn leave<D: Disk>(
 ) -> Result<(), StoreError>
     ensures done { Changes file.old file.new roots.now lists.now (without_member name.now run) result }
     ensures failed { IfErr result (FailsWithout file.old file.new roots.now lists.now (λ t _. CanTakeOut file.old t)) }
-    ensures usable { OnOk result (IsUsable file.new) }
-    ensures keeps { Keeps (pools.state file.old.pool) (pools.state file.new.pool) }
+    ensures leaves { LeavesUsable file.old file.new result }
 {
     if !has_member(lists, name, run) {
         return if_usable(file);
@@ -122,8 +117,7 @@ pub fn set_baseline<D: Disk>(
 ) -> Result<(), StoreError>
     ensures done { Changes file.old file.new roots.now lists.now (with_baseline name.now run) result }
     ensures failed { IfErr result (FailsWithout file.old file.new roots.now lists.now (CanRebase file.old name.now run)) }
-    ensures usable { OnOk result (IsUsable file.new) }
-    ensures keeps { Keeps (pools.state file.old.pool) (pools.state file.new.pool) }
+    ensures leaves { LeavesUsable file.old file.new result }
 {
     if !lists.has_group(name) {
         return if_usable(file);
@@ -145,8 +139,7 @@ pub fn drop_group<D: Disk>(
 ) -> Result<(), StoreError>
     ensures done { Changes file.old file.new roots.now lists.now (without_group name.now) result }
     ensures failed { IfErr result (FailsWithout file.old file.new roots.now lists.now (λ t _. CanDropGroup name.now t)) }
-    ensures usable { OnOk result (IsUsable file.new) }
-    ensures keeps { Keeps (pools.state file.old.pool) (pools.state file.new.pool) }
+    ensures leaves { LeavesUsable file.old file.new result }
 {
     if !lists.has_group(name) {
         return Err(StoreError::Store);

@@ -1,8 +1,5 @@
 // The rows of a run in one table.
-ghost use Rattle.std.specs.Prelude.{OnOk};
-ghost use Rattle.sqlite_pool.specs.Pool as pools;
-ghost use Rattle.sqlite_pool.specs.Stored.{Keeps};
-ghost use Rattle.page_files.specs.Files.{IsUsable};
+ghost use Rattle.page_files.specs.Files.{LeavesUsable};
 ghost use Rattle.page_changes.specs.Removed.{Anything, DropsWithin, ErasesRun, without_costs, without_events};
 
 use page_files::PageFile;
@@ -20,8 +17,7 @@ fn erase_run<D: Disk>(
     run: u32,
 ) -> Result<(), StoreError>
     ensures done { ErasesRun file.old file.new place.now run result }
-    ensures usable { OnOk result (IsUsable file.new) }
-    ensures keeps { Keeps (pools.state file.old.pool) (pools.state file.new.pool) }
+    ensures leaves { LeavesUsable file.old file.new result }
 {
     match erase_under(file, alloc, place, i64::from(run)) {
         Ok(()) => Ok(()),
@@ -37,8 +33,7 @@ pub(crate) fn drop_events<D: Disk>(
     run: u32,
 ) -> Result<(), StoreError>
     ensures done { DropsWithin file.old file.new roots.now (without_events run) Anything result }
-    ensures usable { OnOk result (IsUsable file.new) }
-    ensures keeps { Keeps (pools.state file.old.pool) (pools.state file.new.pool) }
+    ensures leaves { LeavesUsable file.old file.new result }
 {
     let event_keys = [
         IndexPlace {
@@ -101,8 +96,7 @@ pub(crate) fn drop_costs<D: Disk>(
     run: u32,
 ) -> Result<(), StoreError>
     ensures done { DropsWithin file.old file.new roots.now (without_costs run) Anything result }
-    ensures usable { OnOk result (IsUsable file.new) }
-    ensures keeps { Keeps (pools.state file.old.pool) (pools.state file.new.pool) }
+    ensures leaves { LeavesUsable file.old file.new result }
 {
     let cell_keys = [IndexPlace {
         root: roots.cell_keys,

@@ -1,8 +1,5 @@
 // The memberships of a run.
-ghost use Rattle.std.specs.Prelude.{OnOk};
-ghost use Rattle.sqlite_pool.specs.Pool as pools;
-ghost use Rattle.sqlite_pool.specs.Stored.{Keeps};
-ghost use Rattle.page_files.specs.Files.{IsUsable};
+ghost use Rattle.page_files.specs.Files.{LeavesUsable};
 ghost use Rattle.page_changes.specs.Removed.{Anything, DropsWithin, without_memberships};
 
 use page_files::PageFile;
@@ -44,8 +41,7 @@ pub(crate) fn drop_members<D: Disk>(
     run: u32,
 ) -> Result<(), StoreError>
     ensures done { DropsWithin file.old file.new roots.now (without_memberships run) Anything result }
-    ensures usable { OnOk result (IsUsable file.new) }
-    ensures keeps { Keeps (pools.state file.old.pool) (pools.state file.new.pool) }
+    ensures leaves { LeavesUsable file.old file.new result }
 {
     let keys = [IndexPlace {
         root: roots.member_keys,

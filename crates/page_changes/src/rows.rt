@@ -1,10 +1,8 @@
 // One row of a group or of a member, or the members of a group, within a transaction.
-ghost use Rattle.std.specs.Prelude.{◌≡◌, ◌∷◌, [], ⊤, true, false, None, Some, IfErr, IfOk, OnOk};
-ghost use Rattle.sqlite_pool.specs.Pool as pools;
-ghost use Rattle.sqlite_pool.specs.Stored.{Keeps};
+ghost use Rattle.std.specs.Prelude.{◌≡◌, ◌∷◌, [], ⊤, true, false, None, Some, IfErr, IfOk};
 ghost use Rattle.sqlite_value.specs.declared.value.Value.TheVariants.{Text};
 ghost use Rattle.prof_store.specs.Tables.{number_or_null};
-ghost use Rattle.page_files.specs.Files.{IsUsable};
+ghost use Rattle.page_files.specs.Files.{LeavesUsable};
 ghost use Rattle.plain_tables.specs.Changes.{has_group, has_run, with_baseline, with_group, with_member, without_member};
 ghost use Rattle.prof_store.specs.Schema.{grp_at, member_at};
 ghost use Rattle.page_changes.specs.Causes.{CanPutBaseline, HasRoomForGroup, HasRoomForMember};
@@ -45,8 +43,7 @@ fn put_behind<D: Disk>(
     columns: &Row,
 ) -> Result<(), StoreError>
     ensures done { PutsBehind file.old file.new place.now columns.now result }
-    ensures usable { OnOk result (IsUsable file.new) }
-    ensures keeps { Keeps (pools.state file.old.pool) (pools.state file.new.pool) }
+    ensures leaves { LeavesUsable file.old file.new result }
 {
     let rowid = match free_rowid(file, alloc, place) {
         Ok(rowid) => rowid,
@@ -67,8 +64,7 @@ pub(crate) fn add_member<D: Disk>(
     run: u32,
 ) -> Result<(), StoreError>
     ensures done { MakesWithin file.old file.new roots.now (CanJoin name.now run) (with_member name.now run) (HasRoomForMember name.now run) result }
-    ensures usable { OnOk result (IsUsable file.new) }
-    ensures keeps { Keeps (pools.state file.old.pool) (pools.state file.new.pool) }
+    ensures leaves { LeavesUsable file.old file.new result }
 {
     let keys = [IndexPlace {
         root: roots.member_keys,
@@ -90,8 +86,7 @@ pub(crate) fn add_group<D: Disk>(
     name: &str,
 ) -> Result<(), StoreError>
     ensures done { MakesWithin file.old file.new roots.now (λ t. has_group t name.now ≡ false) (with_group name.now) (HasRoomForGroup name.now) result }
-    ensures usable { OnOk result (IsUsable file.new) }
-    ensures keeps { Keeps (pools.state file.old.pool) (pools.state file.new.pool) }
+    ensures leaves { LeavesUsable file.old file.new result }
 {
     let keys = [IndexPlace {
         root: roots.group_names,
@@ -114,8 +109,7 @@ fn erase_named<D: Disk>(
     number: Option<u32>,
 ) -> Result<(), StoreError>
     ensures done { ErasesNamed file.old file.new place.now name.now number result }
-    ensures usable { OnOk result (IsUsable file.new) }
-    ensures keeps { Keeps (pools.state file.old.pool) (pools.state file.new.pool) }
+    ensures leaves { LeavesUsable file.old file.new result }
 {
     let Some(row) = find_named(file, alloc, place.root, name.as_bytes(), number)? else {
         return Err(StoreError::Store);
@@ -136,8 +130,7 @@ pub(crate) fn erase_member<D: Disk>(
 ) -> Result<(), StoreError>
     ensures done { MakesWithin file.old file.new roots.now (λ _. ⊤) (without_member name.now run)
         (λ now. CanBeFound name.now (Some run) (now member_at.tree)) result }
-    ensures usable { OnOk result (IsUsable file.new) }
-    ensures keeps { Keeps (pools.state file.old.pool) (pools.state file.new.pool) }
+    ensures leaves { LeavesUsable file.old file.new result }
 {
     let keys = [IndexPlace {
         root: roots.member_keys,
@@ -159,8 +152,7 @@ pub(crate) fn put_baseline<D: Disk>(
     run: u32,
 ) -> Result<(), StoreError>
     ensures done { MakesWithin file.old file.new roots.now (λ t. has_run t run ≡ true) (with_baseline name.now run) (CanPutBaseline name.now run) result }
-    ensures usable { OnOk result (IsUsable file.new) }
-    ensures keeps { Keeps (pools.state file.old.pool) (pools.state file.new.pool) }
+    ensures leaves { LeavesUsable file.old file.new result }
 {
     let keys = [IndexPlace {
         root: roots.group_names,
@@ -205,8 +197,7 @@ pub(crate) fn erase_members<D: Disk>(
     name: &str,
 ) -> Result<(), StoreError>
     ensures done { MakesWithin file.old file.new roots.now (λ _. ⊤) (without_members name.now) (λ _. ⊤) result }
-    ensures usable { OnOk result (IsUsable file.new) }
-    ensures keeps { Keeps (pools.state file.old.pool) (pools.state file.new.pool) }
+    ensures leaves { LeavesUsable file.old file.new result }
 {
     let keys = [IndexPlace {
         root: roots.member_keys,
@@ -231,8 +222,7 @@ pub(crate) fn erase_group<D: Disk>(
 ) -> Result<(), StoreError>
     ensures done { MakesWithin file.old file.new roots.now (HasNoMember name.now) (without_named name.now)
         (λ now. CanBeFound name.now None (now grp_at.tree)) result }
-    ensures usable { OnOk result (IsUsable file.new) }
-    ensures keeps { Keeps (pools.state file.old.pool) (pools.state file.new.pool) }
+    ensures leaves { LeavesUsable file.old file.new result }
 {
     let keys = [IndexPlace {
         root: roots.group_names,

@@ -1,8 +1,5 @@
 // A run is taken out of a store.
-ghost use Rattle.std.specs.Prelude.{OnOk};
-ghost use Rattle.sqlite_pool.specs.Pool as pools;
-ghost use Rattle.sqlite_pool.specs.Stored.{Keeps};
-ghost use Rattle.page_files.specs.Files.{IsUsable};
+ghost use Rattle.page_files.specs.Files.{LeavesUsable};
 ghost use Rattle.page_changes.specs.Removed.{Drops, DropsRow};
 
 use crate::baselines::clear_baselines;
@@ -23,8 +20,7 @@ fn drop_its_row<D: Disk>(
     run: u32,
 ) -> Result<(), StoreError>
     ensures done { DropsRow file.old file.new roots.now run result }
-    ensures usable { OnOk result (IsUsable file.new) }
-    ensures keeps { Keeps (pools.state file.old.pool) (pools.state file.new.pool) }
+    ensures leaves { LeavesUsable file.old file.new result }
 {
     let keys = [IndexPlace {
         root: roots.run_digests,
@@ -52,8 +48,7 @@ pub fn drop_run<D: Disk>(
     run: u32,
 ) -> Result<(), StoreError>
     ensures done { Drops file.old file.new lists.now run result }
-    ensures usable { OnOk result (IsUsable file.new) }
-    ensures keeps { Keeps (pools.state file.old.pool) (pools.state file.new.pool) }
+    ensures leaves { LeavesUsable file.old file.new result }
 {
     if !lists.has_run(run) {
         return Err(StoreError::Store);

@@ -1,5 +1,5 @@
 -- What an opened file shows, and what calls leave of it.
-use Rattle.std.specs.Prelude.{◌≡◌, ℕ, IsTrue}
+use Rattle.std.specs.Prelude.{◌≡◌, ℕ, IsTrue, OnOk, Result}
 use Rattle.sqlite_disk.specs.declared.Disk.{Ghosts}
 use Rattle.sqlite_pages.specs.PageMap.{PageMap}
 use Rattle.sqlite_pages.specs.Outcome.{HasCause}
@@ -33,6 +33,11 @@ module _ {D : Type 0} {g : Ghosts D} where
   -- nothing has failed for good: once it has, each call fails until the files are opened again
   abbrev pub IsUsable : PageFile D g → Type 0
   IsUsable it = IsTrue (pools.state it.pool).is_ready
+
+  -- what a call that writes leaves: a file that can be used, where it was done, and no fewer promises of its pages
+  pub record LeavesUsable (old new : PageFile D g) {A E : Type 0} (result : Result A E) : Type 0 where
+    pub usable : OnOk result (IsUsable new)
+    pub keeps : Keeps (pools.state old.pool) (pools.state new.pool)
 
   -- the pages that trees may own, as they are read: also those that are written and not committed
   abbrev pub pages_of : PageFile D g → PageMap

@@ -1,11 +1,9 @@
 // Many rows or entries at a time, within a transaction.
-ghost use Rattle.std.specs.Prelude.{◌^◌, ◌<◌, All, length, OnOk};
-ghost use Rattle.sqlite_pool.specs.Pool as pools;
-ghost use Rattle.sqlite_pool.specs.Stored.{Keeps};
+ghost use Rattle.std.specs.Prelude.{◌^◌, ◌<◌, All, length};
 ghost use Rattle.sqlite_record.specs.Strict.{IsRecord};
 ghost use Rattle.sqlite_trees.specs.Tree.{put_row, insert_entry};
 ghost use Rattle.page_files.specs.Places.{rows_given, entries_given};
-ghost use Rattle.page_files.specs.Files.{IsUsable};
+ghost use Rattle.page_files.specs.Files.{LeavesUsable};
 ghost use Rattle.page_files.specs.Writes.{PlacesRows};
 
 use crate::files::PageFile;
@@ -27,8 +25,7 @@ impl<D: Disk> PageFile<D> {
         requires short { All (λ row. length row.1.now < 2 ^ 31) rows.now }
         requires strict { All (λ row. IsRecord row.1.now) rows.now }
         ensures done { PlacesRows self.old self.new Shape.Table root put_row (rows_given rows.now) result }
-        ensures usable { OnOk result (IsUsable self.new) }
-        ensures keeps { Keeps (pools.state self.old.pool) (pools.state self.new.pool) }
+        ensures leaves { LeavesUsable self.old self.new result }
     {
         tree_appends::append(&mut self.pool, alloc, root, rows)?;
         self.if_usable()
@@ -50,8 +47,7 @@ impl<D: Disk> PageFile<D> {
         requires short { All (λ entry. length entry.now < 2 ^ 31) entries.now }
         requires strict { All (λ entry. IsRecord entry.now) entries.now }
         ensures done { PlacesRows self.old self.new (Shape.Index order) root (insert_entry order) (entries_given entries.now) result }
-        ensures usable { OnOk result (IsUsable self.new) }
-        ensures keeps { Keeps (pools.state self.old.pool) (pools.state self.new.pool) }
+        ensures leaves { LeavesUsable self.old self.new result }
     {
         tree_appends::append_entries(&mut self.pool, alloc, root, order, entries)?;
         self.if_usable()

@@ -1,9 +1,6 @@
 // Many rows taken out of one tree within a transaction.
-ghost use Rattle.std.specs.Prelude.{OnOk};
-ghost use Rattle.sqlite_pool.specs.Pool as pools;
-ghost use Rattle.sqlite_pool.specs.Stored.{Keeps};
 ghost use Rattle.page_files.specs.Removals.{has_prefix, without, without_rowids};
-ghost use Rattle.page_files.specs.Files.{IsUsable};
+ghost use Rattle.page_files.specs.Files.{LeavesUsable};
 ghost use Rattle.page_files.specs.Writes.{EditsTree};
 
 use crate::files::PageFile;
@@ -23,8 +20,7 @@ impl<D: Disk> PageFile<D> {
     /// As `put`.
     pub fn delete_all(&mut self, alloc: Global, root: u32, rowids: &[i64]) -> Result<(), Error>
         ensures done { EditsTree self.old self.new Shape.Table root (without_rowids rowids.now) result }
-        ensures usable { OnOk result (IsUsable self.new) }
-        ensures keeps { Keeps (pools.state self.old.pool) (pools.state self.new.pool) }
+        ensures leaves { LeavesUsable self.old self.new result }
     {
         tree_removals::delete_all(&mut self.pool, alloc, root, rowids)?;
         self.if_usable()
@@ -43,8 +39,7 @@ impl<D: Disk> PageFile<D> {
         prefix: &Row,
     ) -> Result<(), Error>
         ensures done { EditsTree self.old self.new (Shape.Index order) root (without (has_prefix order prefix.now)) result }
-        ensures usable { OnOk result (IsUsable self.new) }
-        ensures keeps { Keeps (pools.state self.old.pool) (pools.state self.new.pool) }
+        ensures leaves { LeavesUsable self.old self.new result }
     {
         tree_removals::remove_under(&mut self.pool, alloc, root, order, prefix)?;
         self.if_usable()

@@ -8,7 +8,7 @@ ghost use Rattle.sqlite_record.specs.Strict.{IsRecord};
 ghost use Rattle.sqlite_store.specs.declared.catalog.Wanted.{Wanted};
 ghost use Rattle.sqlite_store.specs.Db.{table_row};
 ghost use Rattle.sqlite_trees.specs.Tree.{Trees, put_row, without_rowid, insert_entry, remove_entry};
-ghost use Rattle.page_files.specs.Files.{files_of, pages_of, IsFaithful, IsUsable};
+ghost use Rattle.page_files.specs.Files.{files_of, pages_of, IsFaithful, IsUsable, LeavesUsable};
 ghost use Rattle.page_files.specs.Held.{Rests, StandsOn, Writes};
 ghost use Rattle.page_files.specs.Writes.{CommitsAtMost, EditsTree, FailsToWrite, Forgets, PlacesRow};
 
@@ -30,8 +30,7 @@ impl<D: Disk> PageFile<D> {
         requires short { length fields.now < 2 ^ 31 }
         requires strict { IsRecord fields.now }
         ensures done { PlacesRow self.old self.new Shape.Table root (table_row (rowid, fields.now)) put_row result }
-        ensures usable { OnOk result (IsUsable self.new) }
-        ensures keeps { Keeps (pools.state self.old.pool) (pools.state self.new.pool) }
+        ensures leaves { LeavesUsable self.old self.new result }
     {
         edits::put(&mut self.pool, &mut self.scratch, root, rowid, fields)?;
         self.if_usable()
@@ -44,8 +43,7 @@ impl<D: Disk> PageFile<D> {
     /// As `put`.
     pub fn delete(&mut self, root: u32, rowid: i64) -> Result<(), Error>
         ensures done { EditsTree self.old self.new Shape.Table root (without_rowid rowid) result }
-        ensures usable { OnOk result (IsUsable self.new) }
-        ensures keeps { Keeps (pools.state self.old.pool) (pools.state self.new.pool) }
+        ensures leaves { LeavesUsable self.old self.new result }
     {
         edits::delete(&mut self.pool, &mut self.scratch, root, rowid)?;
         self.if_usable()
@@ -67,8 +65,7 @@ impl<D: Disk> PageFile<D> {
         requires strict { IsRecord fields.now }
         requires encoded { decode fields.now ≡ entry.now }
         ensures done { PlacesRow self.old self.new (Shape.Index order) root entry.now (insert_entry order) result }
-        ensures usable { OnOk result (IsUsable self.new) }
-        ensures keeps { Keeps (pools.state self.old.pool) (pools.state self.new.pool) }
+        ensures leaves { LeavesUsable self.old self.new result }
     {
         edits::insert(
             &mut self.pool,
@@ -88,8 +85,7 @@ impl<D: Disk> PageFile<D> {
     /// As `put`.
     pub fn remove(&mut self, root: u32, order: Order, entry: &Row) -> Result<(), Error>
         ensures done { EditsTree self.old self.new (Shape.Index order) root (remove_entry order entry.now) result }
-        ensures usable { OnOk result (IsUsable self.new) }
-        ensures keeps { Keeps (pools.state self.old.pool) (pools.state self.new.pool) }
+        ensures leaves { LeavesUsable self.old self.new result }
     {
         edits::remove(&mut self.pool, &mut self.scratch, root, order, entry)?;
         self.if_usable()
@@ -141,8 +137,7 @@ impl<D: Disk> PageFile<D> {
             → Rests wanted roots db self.new }
         ensures moved { OnOk result (¬ pools.HasSpilled self.old.pool → pools.log_frames self.new.pool ≡ 0) }
         ensures pages { IsFaithful self.new → IsUsable self.new → pages_of self.new ≡ pages_of self.old }
-        ensures usable { OnOk result (IsUsable self.new) }
-        ensures keeps { Keeps (pools.state self.old.pool) (pools.state self.new.pool) }
+        ensures leaves { LeavesUsable self.old self.new result }
     {
         self.pool.checkpoint()?;
         self.if_usable()

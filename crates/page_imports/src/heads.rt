@@ -1,8 +1,6 @@
 // What a run says of itself: the next number, its own row, and the lines of its head.
-ghost use Rattle.std.specs.Prelude.{[], ◌∷◌, map, OnOk};
-ghost use Rattle.sqlite_pool.specs.Pool as pools;
-ghost use Rattle.sqlite_pool.specs.Stored.{Keeps};
-ghost use Rattle.page_files.specs.Files.{IsUsable};
+ghost use Rattle.std.specs.Prelude.{[], ◌∷◌, map};
+ghost use Rattle.page_files.specs.Files.{LeavesUsable};
 ghost use Rattle.plain_tables.specs.Changes.{with_coefs, with_derived, with_events, with_next, with_run};
 ghost use Rattle.prof_store.specs.Lines.{coef_row, derived_row, event_row, run_row};
 ghost use Rattle.prof_store.specs.Schema.{meta_at, run_at, run_event_at, derived_at, coef_at};
@@ -32,8 +30,7 @@ fn put_next<D: Disk>(
 ) -> Result<(), StoreError>
     ensures done { Makes file.old file.new roots.now (meta_at ∷ []) (IsAbove next) (with_next next)
         (λ _ _. CanBeWritten meta_at (tables.meta_columns next)) result }
-    ensures usable { OnOk result (IsUsable file.new) }
-    ensures keeps { Keeps (pools.state file.old.pool) (pools.state file.new.pool) }
+    ensures leaves { LeavesUsable file.old file.new result }
 {
     let columns = meta_columns(alloc, next)?;
     let place = Place {
@@ -55,8 +52,7 @@ fn put_run_row<D: Disk>(
 ) -> Result<(), StoreError>
     ensures done { Makes file.old file.new roots.now (run_at ∷ []) (CanAdd run.now.number run.now.digest.now) (with_run (run_row run.now))
         (λ _ _. CanBeWritten run_at (tables.run_columns (run_row run.now))) result }
-    ensures usable { OnOk result (IsUsable file.new) }
-    ensures keeps { Keeps (pools.state file.old.pool) (pools.state file.new.pool) }
+    ensures leaves { LeavesUsable file.old file.new result }
 {
     let columns = run_columns(alloc, run)?;
     let keys = [IndexPlace {
@@ -82,8 +78,7 @@ fn put_events<D: Disk>(
 ) -> Result<(), StoreError>
     ensures done { PutsLines file.old file.new roots.now run_event_at (λ t. t.events) (λ line. line.run) tables.event_columns
         with_events (map event_row lines.now) result }
-    ensures usable { OnOk result (IsUsable file.new) }
-    ensures keeps { Keeps (pools.state file.old.pool) (pools.state file.new.pool) }
+    ensures leaves { LeavesUsable file.old file.new result }
 {
     let keys = [
         IndexPlace {
@@ -111,8 +106,7 @@ fn put_derived<D: Disk>(
 ) -> Result<(), StoreError>
     ensures done { PutsLines file.old file.new roots.now derived_at (λ t. t.derived) (λ line. line.run) tables.derived_columns
         with_derived (map derived_row lines.now) result }
-    ensures usable { OnOk result (IsUsable file.new) }
-    ensures keeps { Keeps (pools.state file.old.pool) (pools.state file.new.pool) }
+    ensures leaves { LeavesUsable file.old file.new result }
 {
     let keys = [
         IndexPlace {
@@ -140,8 +134,7 @@ fn put_coefs<D: Disk>(
 ) -> Result<(), StoreError>
     ensures done { PutsLines file.old file.new roots.now coef_at (λ t. t.coefs) (λ line. line.run) tables.coef_columns
         with_coefs (map coef_row lines.now) result }
-    ensures usable { OnOk result (IsUsable file.new) }
-    ensures keeps { Keeps (pools.state file.old.pool) (pools.state file.new.pool) }
+    ensures leaves { LeavesUsable file.old file.new result }
 {
     let keys = [IndexPlace {
         root: roots.coef_keys,
@@ -164,8 +157,7 @@ pub(crate) fn put_head<D: Disk>(
 ) -> Result<(), StoreError>
     ensures done { Makes file.old file.new roots.now head_tables (CanBegin run.now head.now)
         (with_head_of run.now head.now) (λ _. CanPutHeadOf run.now head.now) result }
-    ensures usable { OnOk result (IsUsable file.new) }
-    ensures keeps { Keeps (pools.state file.old.pool) (pools.state file.new.pool) }
+    ensures leaves { LeavesUsable file.old file.new result }
 {
     let Some(next) = run.number.checked_add(1) else {
         return Err(StoreError::Store);

@@ -1,11 +1,9 @@
 // A file is put in as a run.
 ghost use Rattle.std.specs.Prelude.{◌≡◌, ◌<◌, ◌++◌, ◌^◌, false, IfErr, IsTrue, OnOk};
 ghost use Rattle.std.specs.List.{list_any};
-ghost use Rattle.sqlite_pool.specs.Pool as pools;
-ghost use Rattle.sqlite_pool.specs.Stored.{Keeps};
 ghost use Rattle.cost_rows.specs.Rows.{content_of};
 ghost use Rattle.cost_rows.specs.Totals.{count_total};
-ghost use Rattle.page_files.specs.Files.{IsUsable};
+ghost use Rattle.page_files.specs.Files.{LeavesUsable};
 ghost use Rattle.plain_tables.specs.Tables.{Tables};
 ghost use Rattle.run_stores.specs.Heads.{IsComplete};
 ghost use Rattle.page_imports.specs.Sums.{AllFit};
@@ -60,8 +58,7 @@ fn put_beginning<D: Disk>(
     ensures complete { OnOk result (IsComplete summed.now.head.now) }
     ensures fits { OnOk result (AllFit summed.now.head.now (content_of summed.now.rows.now)) }
     ensures counted { OnOk result (count_total (content_of summed.now.rows.now).calls < 2 ^ 63) }
-    ensures usable { OnOk result (IsUsable file.new) }
-    ensures keeps { Keeps (pools.state file.old.pool) (pools.state file.new.pool) }
+    ensures leaves { LeavesUsable file.old file.new result }
 {
     let roots = find_roots(file, alloc)?;
     let Some(call_count) = column_int_of(summed.totals.call_count) else {
@@ -99,8 +96,7 @@ pub fn put_run<D: Disk>(
     ensures complete { OnOk result (IsComplete summed.now.head.now) }
     ensures fits { OnOk result (AllFit summed.now.head.now (content_of summed.now.rows.now)) }
     ensures counted { OnOk result (count_total (content_of summed.now.rows.now).calls < 2 ^ 63) }
-    ensures usable { OnOk result (IsUsable file.new) }
-    ensures keeps { Keeps (pools.state file.old.pool) (pools.state file.new.pool) }
+    ensures leaves { LeavesUsable file.old file.new result }
 {
     // Where another program set the next number back, no run is written over.
     if is_reached(lists, number) || !is_next(lists, number, digest) {

@@ -1,8 +1,6 @@
 // The names of a file, by their numbers in the store.
 ghost use Rattle.std.specs.Prelude.{◌≡◌, [], ◌∷◌, ⊤, false, map, IsTrue, OnOk};
-ghost use Rattle.sqlite_pool.specs.Pool as pools;
-ghost use Rattle.sqlite_pool.specs.Stored.{Keeps};
-ghost use Rattle.page_files.specs.Files.{IsUsable, OnlyReads};
+ghost use Rattle.page_files.specs.Files.{IsUsable, OnlyReads, LeavesUsable};
 ghost use Rattle.plain_tables.specs.Changes.{has_name};
 ghost use Rattle.plain_tables.specs.Files.{all_named, numbers_in};
 ghost use Rattle.prof_store.specs.Names.{number_if_held};
@@ -115,8 +113,7 @@ fn put_names<D: Disk>(
 ) -> Result<(), StoreError>
     ensures done { Makes file.old file.new roots.now (name_at ∷ []) (AreUnheld (bytes_of news.now)) (with_names (bytes_of news.now))
         (λ _. CanBePut name_at (map name_line (bytes_of news.now))) result }
-    ensures usable { OnOk result (IsUsable file.new) }
-    ensures keeps { Keeps (pools.state file.old.pool) (pools.state file.new.pool) }
+    ensures leaves { LeavesUsable file.old file.new result }
 {
     let keys = [IndexPlace {
         root: roots.name_bytes,
@@ -138,8 +135,7 @@ pub(crate) fn number_names<D: Disk>(
 ) -> Result<Vec<u32>, StoreError>
     ensures done { MakesTelling file.old file.new roots.now (name_at ∷ []) (all_named names.now) (CanBeNumbered names.now) result
         (λ t numbers. numbers.items ≡ numbers_in t names.now) }
-    ensures usable { OnOk result (IsUsable file.new) }
-    ensures keeps { Keeps (pools.state file.old.pool) (pools.state file.new.pool) }
+    ensures leaves { LeavesUsable file.old file.new result }
 {
     let found = find_numbers(file, alloc, roots, names)?;
     put_names(file, alloc, roots, &found.news)?;

@@ -1,9 +1,7 @@
 // The rows of a file.
-ghost use Rattle.std.specs.Prelude.{[], ◌∷◌, OnOk};
-ghost use Rattle.sqlite_pool.specs.Pool as pools;
-ghost use Rattle.sqlite_pool.specs.Stored.{Keeps};
+ghost use Rattle.std.specs.Prelude.{[], ◌∷◌};
 ghost use Rattle.cost_rows.specs.Rows.{content_of};
-ghost use Rattle.page_files.specs.Files.{IsUsable};
+ghost use Rattle.page_files.specs.Files.{LeavesUsable};
 ghost use Rattle.plain_tables.specs.Changes.{with_calls, with_cells, with_stacks};
 ghost use Rattle.run_stores.specs.Files.{call_rows, cell_rows, stack_rows, with_rows};
 ghost use Rattle.prof_store.specs.Schema.{arc_at, stack_at, thread_cell_at};
@@ -35,8 +33,7 @@ fn put_cells<D: Disk>(
 ) -> Result<(), StoreError>
     ensures done { Makes file.old file.new roots.now (thread_cell_at ∷ []) (HasNoCell run)
         (with_cells (cell_rows run numbers.now (content_of rows.now).cells)) (λ _. CanPutCells run numbers.now (content_of rows.now).cells) result }
-    ensures usable { OnOk result (IsUsable file.new) }
-    ensures keeps { Keeps (pools.state file.old.pool) (pools.state file.new.pool) }
+    ensures leaves { LeavesUsable file.old file.new result }
 {
     let names = RunNames { run, numbers };
     let lines = cell_lines(alloc, &names, rows)?;
@@ -62,8 +59,7 @@ fn put_calls<D: Disk>(
 ) -> Result<(), StoreError>
     ensures done { Makes file.old file.new roots.now (arc_at ∷ []) (HasNoCall run)
         (with_calls (call_rows run numbers.now (content_of rows.now).calls)) (λ _. CanPutCalls run numbers.now (content_of rows.now).calls) result }
-    ensures usable { OnOk result (IsUsable file.new) }
-    ensures keeps { Keeps (pools.state file.old.pool) (pools.state file.new.pool) }
+    ensures leaves { LeavesUsable file.old file.new result }
 {
     let names = RunNames { run, numbers };
     let lines = call_lines(alloc, &names, rows)?;
@@ -88,8 +84,7 @@ fn put_stacks<D: Disk>(
 ) -> Result<(), StoreError>
     ensures done { Makes file.old file.new roots.now (stack_at ∷ []) (HasNoStack run)
         (with_stacks (stack_rows run (content_of rows.now).stacks)) (λ _. CanPutStacks run (content_of rows.now).stacks) result }
-    ensures usable { OnOk result (IsUsable file.new) }
-    ensures keeps { Keeps (pools.state file.old.pool) (pools.state file.new.pool) }
+    ensures leaves { LeavesUsable file.old file.new result }
 {
     let lines = stack_lines(alloc, run, rows)?;
     let keys = [IndexPlace {
@@ -114,8 +109,7 @@ pub(crate) fn put_rows<D: Disk>(
 ) -> Result<(), StoreError>
     ensures done { Makes file.old file.new roots.now row_tables (HasNoRow run)
         (with_rows run (content_of rows.now)) (CanPutRows run (content_of rows.now)) result }
-    ensures usable { OnOk result (IsUsable file.new) }
-    ensures keeps { Keeps (pools.state file.old.pool) (pools.state file.new.pool) }
+    ensures leaves { LeavesUsable file.old file.new result }
 {
     let numbers = number_names(file, alloc, roots, rows.names())?;
     put_cells(file, alloc, roots, run, &numbers, rows)?;

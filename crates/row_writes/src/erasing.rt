@@ -3,7 +3,7 @@ ghost use Rattle.std.specs.Prelude.{◌≡◌, filter, OnOk, MatchResult, ⊤};
 ghost use Rattle.sqlite_pool.specs.Pool as pools;
 ghost use Rattle.sqlite_pool.specs.Stored.{Keeps};
 ghost use Rattle.sqlite_rules.specs.Edit.{without_all};
-ghost use Rattle.page_files.specs.Files.{IsUsable, OnlyReads};
+ghost use Rattle.page_files.specs.Files.{IsUsable, OnlyReads, LeavesUsable};
 ghost use Rattle.page_places.specs.Causes.{FailsToChange};
 ghost use Rattle.page_places.specs.Changes.{Anything, AtRows, EditsRows};
 ghost use Rattle.row_writes.specs.Tests.{rowids_of, rows_left};
@@ -113,8 +113,7 @@ pub fn erase_where<D: Disk, T: RowTest>(
     test: &T,
 ) -> Result<(), RowError>
     ensures done { EditsRows file.old file.new place.now Anything (rows_left (T.takes test.now)) (λ _ _. ⊤) result }
-    ensures usable { OnOk result (IsUsable file.new) }
-    ensures keeps { Keeps (pools.state file.old.pool) (pools.state file.new.pool) }
+    ensures leaves { LeavesUsable file.old file.new result }
 {
     let rowids = rowids_where(file, alloc, place, test)?;
     erase_all(file, alloc, place, rowids.as_slice())

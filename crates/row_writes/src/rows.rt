@@ -1,11 +1,9 @@
 // One row at a time.
-ghost use Rattle.std.specs.Prelude.{◌∷◌, ◌++◌, [], OnOk, ⊤};
-ghost use Rattle.sqlite_pool.specs.Pool as pools;
-ghost use Rattle.sqlite_pool.specs.Stored.{Keeps};
+ghost use Rattle.std.specs.Prelude.{◌∷◌, ◌++◌, [], ⊤};
 ghost use Rattle.sqlite_trees.specs.Tree.{put_row, without_rowid};
 ghost use Rattle.sqlite_trees.specs.View.{IsStorableRow};
 ghost use Rattle.sqlite_value.specs.declared.value.Value.TheVariants.{Int};
-ghost use Rattle.page_files.specs.Files.{IsUsable};
+ghost use Rattle.page_files.specs.Files.{LeavesUsable};
 ghost use Rattle.page_places.specs.Changes.{Anything, AreBelow, AreStorable, EditsRows, KeepsEntries};
 
 use crate::entries::{insert_entries, remove_entries};
@@ -31,8 +29,7 @@ pub fn insert<D: Disk>(
 ) -> Result<(), RowError>
     ensures done { EditsRows file.old file.new place.now (λ rows _. AreBelow (Int rowid) rows) (λ rows. rows ++ (Int rowid ∷ columns.now) ∷ [])
         (λ _ indexes. IsStorableRow 0 (Int rowid ∷ columns.now) × AreStorable (Int rowid ∷ columns.now) indexes) result }
-    ensures usable { OnOk result (IsUsable file.new) }
-    ensures keeps { Keeps (pools.state file.old.pool) (pools.state file.new.pool) }
+    ensures leaves { LeavesUsable file.old file.new result }
 {
     let row = with_rowid(alloc, rowid, columns)?;
     let (mut types, mut fields) = (Vec::new(alloc), Vec::new(alloc));
@@ -52,8 +49,7 @@ pub fn erase<D: Disk>(
     rowid: i64,
 ) -> Result<(), RowError>
     ensures done { EditsRows file.old file.new place.now Anything (without_rowid rowid) (λ _ _. ⊤) result }
-    ensures usable { OnOk result (IsUsable file.new) }
-    ensures keeps { Keeps (pools.state file.old.pool) (pools.state file.new.pool) }
+    ensures leaves { LeavesUsable file.old file.new result }
 {
     let mut payload = Vec::new(alloc);
     if !file.find_row(alloc, place.root, rowid, &mut payload)? {
@@ -79,8 +75,7 @@ pub fn replace<D: Disk>(
 ) -> Result<(), RowError>
     ensures done { EditsRows file.old file.new place.now (KeepsEntries rowid columns.now) (put_row (Int rowid ∷ columns.now))
         (λ _ _. IsStorableRow 0 (Int rowid ∷ columns.now)) result }
-    ensures usable { OnOk result (IsUsable file.new) }
-    ensures keeps { Keeps (pools.state file.old.pool) (pools.state file.new.pool) }
+    ensures leaves { LeavesUsable file.old file.new result }
 {
     let row = with_rowid(alloc, rowid, columns)?;
     let (mut types, mut fields) = (Vec::new(alloc), Vec::new(alloc));

@@ -5,7 +5,7 @@ ghost use Rattle.sqlite_pool.specs.Stored.{Keeps};
 ghost use Rattle.sqlite_record.specs.Record.{decode};
 ghost use Rattle.sqlite_rules.specs.Edit.{id_in};
 ghost use Rattle.sqlite_value.specs.Value.{owned};
-ghost use Rattle.page_files.specs.Files.{IsUsable, OnlyReads};
+ghost use Rattle.page_files.specs.Files.{IsUsable, OnlyReads, LeavesUsable};
 ghost use Rattle.page_places.specs.Changes.{EditsRows};
 ghost use Rattle.page_places.specs.Entries.{EditsEntries};
 ghost use Rattle.row_writes.specs.Tests.{rows_left};
@@ -145,8 +145,7 @@ pub fn erase_under<D: Disk>(
     number: i64,
 ) -> Result<(), RowError>
     ensures done { EditsRows file.old file.new place.now AreLed (rows_left (is_under number)) (λ _ _. ⊤) result }
-    ensures usable { OnOk result (IsUsable file.new) }
-    ensures keeps { Keeps (pools.state file.old.pool) (pools.state file.new.pool) }
+    ensures leaves { LeavesUsable file.old file.new result }
 {
     if place.indexes.is_empty() {
         file.if_usable()?;

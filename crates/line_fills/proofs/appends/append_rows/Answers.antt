@@ -59,11 +59,11 @@ loop-done-preserved g c =
     (λ faithful wanted roots was now t w is plain. c.in-Ok.ensures.done faithful wanted roots was now t w is (λ k d low. as_given wanted t _ plain)) in
     record {
       within = omega (arith, c.min-end.ensures);
-      keeps = Keeps-trans _ _ _ c.loop-done.invariant.keeps c.append.ensures.keeps;
-      usable = λ ready. c.in-Ok.ensures.usable;
+      keeps = Keeps-trans _ _ _ c.loop-done.invariant.keeps c.append.ensures.leaves.keeps;
+      usable = λ ready. c.in-Ok.ensures.leaves.usable;
       placed = subst (HasPlaced Table root put_row old new)
           (numbered_batch columns c.args.first lines done end (omega (arith, c.min-end.ensures, c.loop-done.invariant.within)) (omega (arith, c.min-end.ensures)))
-          (more_placed Table root put_row old mid new c.append.ensures.keeps front c.loop-done.invariant.placed more batch);
+          (more_placed Table root put_row old mid new c.append.ensures.leaves.keeps front c.loop-done.invariant.placed more batch);
     }
 
 pub returns-clause-done : goal.returns-clause-done
@@ -89,7 +89,7 @@ returns-in-Err-clause-done g c faithful = λ wanted roots was now t w is plain.
     let mid = c.loop-done.file in
     let new = c.append.new.self in
     let front = numbered c.args.first (map g.L.PageLine.columns (take c.loop-done.done c.args.lines.now)) in
-    let fails = after_placed Table c.args.root put_row old mid new c.append.ensures.keeps front c.loop-done.invariant.placed (FailsToWrite mid new c.in-Err.error)
+    let fails = after_placed Table c.args.root put_row old mid new c.append.ensures.leaves.keeps front c.loop-done.invariant.placed (FailsToWrite mid new c.in-Err.error)
     (λ faithful wanted roots was now t w is plain. c.in-Err.ensures.done faithful wanted roots was now t w is (λ k d low. as_given wanted t _ plain)) in
     store_fails_later old mid new _ c.loop-done.invariant.keeps (λ can. can) (pages_fail mid new c.in-Err.error _ c.error_of.ensures (fails faithful wanted roots was now t w is plain))
 
@@ -100,7 +100,7 @@ pub returns-in_err-rows-clause-keeps : goal.returns-in_err-rows-clause-keeps
 returns-in_err-rows-clause-keeps g c = c.loop-done.invariant.keeps
 
 pub returns-in-Err-clause-keeps : goal.returns-in-Err-clause-keeps
-returns-in-Err-clause-keeps g c = Keeps-trans _ _ _ c.loop-done.invariant.keeps c.append.ensures.keeps
+returns-in-Err-clause-keeps g c = Keeps-trans _ _ _ c.loop-done.invariant.keeps c.append.ensures.leaves.keeps
 
 pub returns-clause-keeps : goal.returns-clause-keeps
 returns-clause-keeps g c = c.loop-done.invariant.keeps

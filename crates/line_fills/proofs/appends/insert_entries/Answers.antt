@@ -62,11 +62,11 @@ loop-done-preserved g c =
     (λ faithful wanted roots was now t w is none. c.in-Ok.ensures.done faithful wanted roots was now t w is (λ k d low. entry_as_given wanted t _ none)) in
     record {
       within = omega (arith, c.min-end.ensures);
-      keeps = Keeps-trans _ _ _ c.loop-done.invariant.keeps c.append_entries.ensures.keeps;
-      usable = λ ready. c.in-Ok.ensures.usable;
+      keeps = Keeps-trans _ _ _ c.loop-done.invariant.keeps c.append_entries.ensures.leaves.keeps;
+      usable = λ ready. c.in-Ok.ensures.leaves.usable;
       placed = subst (HasPlaced (Index plain) index.root (insert_entry plain) old new)
           (entries_batch index.columns.now c.args.first lines places done end (omega (arith, c.min-end.ensures, c.loop-done.invariant.within)))
-          (more_placed (Index plain) index.root (insert_entry plain) old mid new c.append_entries.ensures.keeps front c.loop-done.invariant.placed more batch);
+          (more_placed (Index plain) index.root (insert_entry plain) old mid new c.append_entries.ensures.leaves.keeps front c.loop-done.invariant.placed more batch);
     }
 
 pub returns-clause-done : goal.returns-clause-done
@@ -96,7 +96,7 @@ returns-in-Err-clause-done g c faithful = λ wanted roots was now t w is none.
     let new = c.append_entries.new.self in
     let index = c.args.index.now in
     let front = entries_at index.columns.now c.args.first (map g.L.PageLine.columns c.args.lines.now) (take c.loop-done.done c.args.places.now) in
-    let fails = after_placed (Index plain) index.root (insert_entry plain) old mid new c.append_entries.ensures.keeps front c.loop-done.invariant.placed (FailsToWrite mid new c.in-Err.error)
+    let fails = after_placed (Index plain) index.root (insert_entry plain) old mid new c.append_entries.ensures.leaves.keeps front c.loop-done.invariant.placed (FailsToWrite mid new c.in-Err.error)
     (λ faithful wanted roots was now t w is none. c.in-Err.ensures.done faithful wanted roots was now t w is (λ k d low. entry_as_given wanted t _ none)) in
     store_fails_later old mid new _ c.loop-done.invariant.keeps (λ can. can) (pages_fail mid new c.in-Err.error _ c.error_of.ensures (fails faithful wanted roots was now t w is none))
 
@@ -107,7 +107,7 @@ pub returns-in_err-entries-clause-keeps : goal.returns-in_err-entries-clause-kee
 returns-in_err-entries-clause-keeps g c = c.loop-done.invariant.keeps
 
 pub returns-in-Err-clause-keeps : goal.returns-in-Err-clause-keeps
-returns-in-Err-clause-keeps g c = Keeps-trans _ _ _ c.loop-done.invariant.keeps c.append_entries.ensures.keeps
+returns-in-Err-clause-keeps g c = Keeps-trans _ _ _ c.loop-done.invariant.keeps c.append_entries.ensures.leaves.keeps
 
 pub returns-clause-keeps : goal.returns-clause-keeps
 returns-clause-keeps g c = c.loop-done.invariant.keeps

@@ -1,6 +1,6 @@
 use Rattle.std.proofs.Common.{◌+◌, ◌<◌, ◌^◌, ℕ, List, length, map, sym, subst}
 use Rattle.std.proofs.lemmas.List.{length-map}
-use Rattle.std.proofs.lemmas.Result.{err_from_is_err_and}
+use Rattle.std.proofs.lemmas.Result.{IfOk-from_err, err_from_is_err_and}
 use Rattle.sqlite_pool.specs.Pool.{state}
 use Rattle.sqlite_pool.specs.StoredLaws.{Keeps-refl, Keeps-trans}
 use Rattle.sqlite_value.specs.Order.{Row}
@@ -15,8 +15,8 @@ use Rattle.line_fills.proofs.fills.fill.Goals as goal
 room_for : {X : Type 0} (lines : List X) (columns : X → Row) (first : ℕ) → first + length lines < 2 ^ 63 → first + length (map columns lines) < 2 ^ 63
 room_for lines columns first room = subst (λ n. first + n < 2 ^ 63) (sym (length-map lines columns)) room
 
-pub returns-in_err-append_rows-clause-keeps : goal.returns-in_err-append_rows-clause-keeps
-returns-in_err-append_rows-clause-keeps g c = Keeps-trans _ _ _ c.first_rowid.ensures.reads.keeps c.append_rows.ensures.keeps
+pub returns-in_err-append_rows-clause-leaves : goal.returns-in_err-append_rows-clause-leaves
+returns-in_err-append_rows-clause-leaves g c = record { usable = IfOk-from_err c.from_residual-in_err-append_rows.result _ c.from_residual-in_err-append_rows.ensures.0; keeps = Keeps-trans _ _ _ c.first_rowid.ensures.reads.keeps c.append_rows.ensures.keeps }
 
 pub returns-clause-done : goal.returns-clause-done
 returns-clause-done g c faithful = λ schema wanted roots was now table shows.
@@ -41,8 +41,8 @@ returns-clause-done g c faithful = λ schema wanted roots was now table shows.
     (λ e. store_fails_later c.args.file.now mid new e keeps (λ (can : CanBeFilledIn lines (now table.tree) (indexes_of schema table)). can.entered first (room_for c.args.lines.now g.L.PageLine.columns first c.in_ok-first.ensures.room)))
     (c.fill_indexes.ensures.done faithful wanted roots was trees (indexes_of schema table) (now table.tree) w at.indexes can)
 
-pub returns-clause-keeps : goal.returns-clause-keeps
-returns-clause-keeps g c = Keeps-trans _ _ _ c.first_rowid.ensures.reads.keeps (Keeps-trans _ _ _ c.append_rows.ensures.keeps c.fill_indexes.ensures.keeps)
+pub returns-clause-leaves : goal.returns-clause-leaves
+returns-clause-leaves g c = record { usable = c.fill_indexes.ensures.usable (c.in_ok-append_rows.ensures.usable c.in_ok-first.ensures.usable); keeps = Keeps-trans _ _ _ c.first_rowid.ensures.reads.keeps (Keeps-trans _ _ _ c.append_rows.ensures.keeps c.fill_indexes.ensures.keeps) }
 
 pub returns-in_err-first-clause-done : goal.returns-in_err-first-clause-done
 returns-in_err-first-clause-done g c faithful = λ schema wanted roots was now table shows.

@@ -14,19 +14,19 @@ loop-rowid-init g c = record {
 }
 
 pub returns-in_err-clear_one-clause-keeps : goal.returns-in_err-clear_one-clause-keeps
-returns-in_err-clear_one-clause-keeps g c = Keeps-trans _ _ _ c.loop-rowid.invariant.keeps c.clear_one.ensures.keeps
+returns-in_err-clear_one-clause-keeps g c = Keeps-trans _ _ _ c.loop-rowid.invariant.keeps c.clear_one.ensures.leaves.keeps
 
 pub loop-rowid-preserved : goal.loop-rowid-preserved
 loop-rowid-preserved g c = record {
-  keeps = Keeps-trans _ _ _ c.loop-rowid.invariant.keeps c.clear_one.ensures.keeps;
-  usable = λ ready. c.in_ok-clear_one.ensures.usable;
+  keeps = Keeps-trans _ _ _ c.loop-rowid.invariant.keeps c.clear_one.ensures.leaves.keeps;
+  usable = λ ready. c.in_ok-clear_one.ensures.leaves.usable;
   groups = λ faithful wanted known was now t holds shows sought.
       let n = c.args.run in
       let mid = c.loop-rowid.file in
       let new = c.clear_one.new.file in
       let ids = c.args.rowids.now in
       let k = c.loop-rowid.rowid-index in
-      let d = c.loop-rowid.invariant.groups (c.clear_one.ensures.keeps.stays.clean faithful) wanted known was now t holds shows sought in
+      let d = c.loop-rowid.invariant.groups (c.clear_one.ensures.leaves.keeps.stays.clean faithful) wanted known was now t holds shows sought in
       let id = get_or ids k (pos 0) in
       let same : to_z w64 (of_z w64 id) ≡ id = search (rules, to_z-of_z) in
       let more = subst (λ l. IsClearing n t wanted known was l mid) (drop_more ids k (pos 0) c.loop-rowid-test.true) d in

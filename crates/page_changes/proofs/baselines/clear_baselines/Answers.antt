@@ -22,8 +22,8 @@ match_either : {T E : Type 0} (r : Result T E) (P : Type 0) (F G : E → Type 0)
 match_either (Ok x) P F G p so g = p
 match_either (Err e) P F G p so g = so e g
 
-pub returns-clause-keeps : goal.returns-clause-keeps
-returns-clause-keeps g c = Keeps-trans _ _ _ c.rowids_where.ensures.reads.keeps c.clear_all.ensures.keeps
+pub returns-clause-leaves : goal.returns-clause-leaves
+returns-clause-leaves g c = record { usable = c.clear_all.ensures.usable c.in-Ok.ensures.usable; keeps = Keeps-trans _ _ _ c.rowids_where.ensures.reads.keeps c.clear_all.ensures.keeps }
 
 pub returns-clause-done : goal.returns-clause-done
 returns-clause-done g c faithful = λ wanted known was now t writes holds roots.

@@ -18,17 +18,17 @@ use Rattle.prof_store.specs.Schema.{schema_two, grp_at}
 use Rattle.prof_store.specs.Tables.{number}
 use Rattle.page_changes.proofs.baselines.clear_one.Goals as goal
 
-pub returns-in-Ok-clause-keeps : goal.returns-in-Ok-clause-keeps
-returns-in-Ok-clause-keeps g c = Keeps-trans _ _ _ c.find_row.ensures.reads.keeps c.replace.ensures.keeps
+pub returns-in-Ok-clause-leaves : goal.returns-in-Ok-clause-leaves
+returns-in-Ok-clause-leaves g c = record { usable = c.in-Ok.ensures.leaves.usable; keeps = Keeps-trans _ _ _ c.find_row.ensures.reads.keeps c.replace.ensures.leaves.keeps }
 
-pub returns-clause-keeps : goal.returns-clause-keeps
-returns-clause-keeps g c = Keeps-trans _ _ _ c.find_row.ensures.reads.keeps c.replace.ensures.keeps
+pub returns-clause-leaves : goal.returns-clause-leaves
+returns-clause-leaves g c = record { usable = tt; keeps = Keeps-trans _ _ _ c.find_row.ensures.reads.keeps c.replace.ensures.leaves.keeps }
 
 pub returns-in-Ok-clause-done : goal.returns-in-Ok-clause-done
 returns-in-Ok-clause-done g c faithful = λ wanted known was now t holds shows.
     let old = c.args.file.now in
     let mid = c.find_row.new.self in
-    let before = c.replace.ensures.keeps.stays.clean faithful in
+    let before = c.replace.ensures.leaves.keeps.stays.clean faithful in
     let payload = c.find_row.new.payload.items in
     let id = to_z w64 (of_z w64 c.args.rowid) in
     let same : id ≡ c.args.rowid = to_z-of_z c.ranges.rowid in

@@ -38,26 +38,17 @@ returns-clause-failed g c =
     (record { grouped = sym (c.has_group.ensures.told t listed) ∙ c.if-not-has_group.false; held = sym (c.has_run.ensures.told t listed) ∙ c.if-not-has_run.false; none = none }) in
     fails_with_more c.args.file.now c.add_member.new.file {Q = CanTakeIn c.args.file.now name run t db} e (λ can. can.room none) (at_err c.add_member.result _ _ e is done))
 
-pub returns-clause-usable : goal.returns-clause-usable
-returns-clause-usable g c = c.add_member.ensures.usable
+pub returns-clause-leaves : goal.returns-clause-leaves
+returns-clause-leaves g c = c.add_member.ensures.leaves
 
-pub returns-clause-keeps : goal.returns-clause-keeps
-returns-clause-keeps g c = c.add_member.ensures.keeps
-
-pub returns-then-has_member-clause-usable : goal.returns-then-has_member-clause-usable
-returns-then-has_member-clause-usable g c = c.if_usable.ensures.usable
-
-pub returns-then-has_member-clause-keeps : goal.returns-then-has_member-clause-keeps
-returns-then-has_member-clause-keeps g c = Keeps-refl _
+pub returns-then-has_member-clause-leaves : goal.returns-then-has_member-clause-leaves
+returns-then-has_member-clause-leaves g c = record { usable = c.if_usable.ensures.usable; keeps = Keeps-refl _ }
 
 pub returns-then-not-has_group-clause-done : goal.returns-then-not-has_group-clause-done
 returns-then-not-has_group-clause-done g c = λ clean wanted known db t rests holds listed are. tt
 
-pub returns-then-not-has_group-clause-usable : goal.returns-then-not-has_group-clause-usable
-returns-then-not-has_group-clause-usable g c = tt
-
-pub returns-then-not-has_group-clause-keeps : goal.returns-then-not-has_group-clause-keeps
-returns-then-not-has_group-clause-keeps g c = Keeps-refl _
+pub returns-then-not-has_group-clause-leaves : goal.returns-then-not-has_group-clause-leaves
+returns-then-not-has_group-clause-leaves g c = record { usable = tt; keeps = Keeps-refl _ }
 
 pub returns-then-not-has_group-clause-failed : goal.returns-then-not-has_group-clause-failed
 returns-then-not-has_group-clause-failed g c = λ clean wanted known db t rests holds listed are.

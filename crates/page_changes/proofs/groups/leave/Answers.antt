@@ -29,14 +29,8 @@ returns-clause-failed g c =
     let done = c.erase_member.ensures.done clean wanted known db db t (begins c.args.file.now rests) holds are tt in
     fails_with_more c.args.file.now c.erase_member.new.file {Q = CanTakeOut c.args.file.now t} e (λ can. member_found t db holds name run there can.narrow) (at_err c.erase_member.result _ _ e is done))
 
-pub returns-clause-usable : goal.returns-clause-usable
-returns-clause-usable g c = c.erase_member.ensures.usable
+pub returns-clause-leaves : goal.returns-clause-leaves
+returns-clause-leaves g c = c.erase_member.ensures.leaves
 
-pub returns-clause-keeps : goal.returns-clause-keeps
-returns-clause-keeps g c = c.erase_member.ensures.keeps
-
-pub returns-then-not-has_member-clause-usable : goal.returns-then-not-has_member-clause-usable
-returns-then-not-has_member-clause-usable g c = c.if_usable.ensures.usable
-
-pub returns-then-not-has_member-clause-keeps : goal.returns-then-not-has_member-clause-keeps
-returns-then-not-has_member-clause-keeps g c = Keeps-refl _
+pub returns-then-not-has_member-clause-leaves : goal.returns-then-not-has_member-clause-leaves
+returns-then-not-has_member-clause-leaves g c = record { usable = c.if_usable.ensures.usable; keeps = Keeps-refl _ }

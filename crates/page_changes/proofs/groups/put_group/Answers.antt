@@ -18,20 +18,14 @@ returns-clause-failed g c =
     let done = c.add_group.ensures.done clean wanted known db db t (begins c.args.file.now rests) holds are fresh in
     fails_with_more c.args.file.now c.add_group.new.file {Q = CanMake c.args.name.now t db} e (λ can. can.room) (at_err c.add_group.result _ _ e is done))
 
-pub returns-clause-usable : goal.returns-clause-usable
-returns-clause-usable g c = c.add_group.ensures.usable
-
-pub returns-clause-keeps : goal.returns-clause-keeps
-returns-clause-keeps g c = c.add_group.ensures.keeps
+pub returns-clause-leaves : goal.returns-clause-leaves
+returns-clause-leaves g c = c.add_group.ensures.leaves
 
 pub returns-then-has_group-clause-done : goal.returns-then-has_group-clause-done
 returns-then-has_group-clause-done g c = λ clean wanted known db t rests holds listed are. tt
 
-pub returns-then-has_group-clause-usable : goal.returns-then-has_group-clause-usable
-returns-then-has_group-clause-usable g c = tt
-
-pub returns-then-has_group-clause-keeps : goal.returns-then-has_group-clause-keeps
-returns-then-has_group-clause-keeps g c = Keeps-refl _
+pub returns-then-has_group-clause-leaves : goal.returns-then-has_group-clause-leaves
+returns-then-has_group-clause-leaves g c = record { usable = tt; keeps = Keeps-refl _ }
 
 pub returns-then-has_group-clause-failed : goal.returns-then-has_group-clause-failed
 returns-then-has_group-clause-failed g c = λ clean wanted known db t rests holds listed are.

@@ -37,23 +37,14 @@ returns-clause-failed g c =
     fails_with_more c.args.file.now c.put_baseline.new.file {Q = CanRebase c.args.file.now name run t db} e
     (λ can. record { found = group_found t db holds name grouped can.narrow; room = can.room }) (at_err c.put_baseline.result _ _ e is done))
 
-pub returns-clause-usable : goal.returns-clause-usable
-returns-clause-usable g c = c.put_baseline.ensures.usable
-
-pub returns-clause-keeps : goal.returns-clause-keeps
-returns-clause-keeps g c = c.put_baseline.ensures.keeps
+pub returns-clause-leaves : goal.returns-clause-leaves
+returns-clause-leaves g c = c.put_baseline.ensures.leaves
 
 pub returns-then-not-has_run-clause-done : goal.returns-then-not-has_run-clause-done
 returns-then-not-has_run-clause-done g c = λ clean wanted known db t rests holds listed are. tt
 
-pub returns-then-not-has_run-clause-usable : goal.returns-then-not-has_run-clause-usable
-returns-then-not-has_run-clause-usable g c = tt
+pub returns-then-not-has_run-clause-leaves : goal.returns-then-not-has_run-clause-leaves
+returns-then-not-has_run-clause-leaves g c = record { usable = tt; keeps = Keeps-refl _ }
 
-pub returns-then-not-has_run-clause-keeps : goal.returns-then-not-has_run-clause-keeps
-returns-then-not-has_run-clause-keeps g c = Keeps-refl _
-
-pub returns-then-not-has_group-clause-usable : goal.returns-then-not-has_group-clause-usable
-returns-then-not-has_group-clause-usable g c = c.if_usable.ensures.usable
-
-pub returns-then-not-has_group-clause-keeps : goal.returns-then-not-has_group-clause-keeps
-returns-then-not-has_group-clause-keeps g c = Keeps-refl _
+pub returns-then-not-has_group-clause-leaves : goal.returns-then-not-has_group-clause-leaves
+returns-then-not-has_group-clause-leaves g c = record { usable = c.if_usable.ensures.usable; keeps = Keeps-refl _ }

@@ -7,18 +7,18 @@ use Rattle.std.proofs.lemmas.Result.{IfOk-from_err, err_from_is_err_and}
 use Rattle.page_places.proofs.Failing.{store_fails_later}
 use Rattle.page_changes.proofs.lines.drop_events.Goals as goal
 
-pub returns-in_err-erase_run-2-clause-keeps : goal.returns-in_err-erase_run-2-clause-keeps
-returns-in_err-erase_run-2-clause-keeps g c = Keeps-trans _ _ _ c.erase_run.ensures.keeps c.erase_run-2.ensures.keeps
+pub returns-in_err-erase_run-2-clause-leaves : goal.returns-in_err-erase_run-2-clause-leaves
+returns-in_err-erase_run-2-clause-leaves g c = record { usable = IfOk-from_err c.from_residual-in_err-erase_run-2.result _ c.from_residual-in_err-erase_run-2.ensures.0; keeps = Keeps-trans _ _ _ c.erase_run.ensures.leaves.keeps c.erase_run-2.ensures.leaves.keeps }
 
-pub returns-clause-keeps : goal.returns-clause-keeps
-returns-clause-keeps g c = Keeps-trans _ _ _ (Keeps-trans _ _ _ c.erase_run.ensures.keeps c.erase_run-2.ensures.keeps) c.erase_run-3.ensures.keeps
+pub returns-clause-leaves : goal.returns-clause-leaves
+returns-clause-leaves g c = record { usable = c.erase_run-3.ensures.leaves.usable; keeps = Keeps-trans _ _ _ (Keeps-trans _ _ _ c.erase_run.ensures.leaves.keeps c.erase_run-2.ensures.leaves.keeps) c.erase_run-3.ensures.leaves.keeps }
 
 pub returns-clause-done : goal.returns-clause-done
 returns-clause-done g c faithful = λ wanted known was now t writes holds roots.
     let n = c.args.run in
-    let after_two = c.erase_run-3.ensures.keeps.stays.clean faithful in
-    let after_one = c.erase_run-2.ensures.keeps.stays.clean after_two in
-    let keeps = Keeps-trans _ _ _ c.erase_run.ensures.keeps c.erase_run-2.ensures.keeps in
+    let after_two = c.erase_run-3.ensures.leaves.keeps.stays.clean faithful in
+    let after_one = c.erase_run-2.ensures.leaves.keeps.stays.clean after_two in
+    let keeps = Keeps-trans _ _ _ c.erase_run.ensures.leaves.keeps c.erase_run-2.ensures.leaves.keeps in
     after (events_out n c.erase_run.new.file wanted known was now t holds (c.in_ok-erase_run.ensures.done after_one schema_two wanted known was now run_event_at
     (table_at c.args.file.now writes holds 2 run_event_at refl _ roots.events (key_at c.args.file.now writes holds 1 _ refl refl _ roots.event_places refl, (key_at c.args.file.now writes holds 2 _ refl refl _ roots.event_names refl, tt)))
     ((2 ∷ [], refl), ((3 ∷ [], refl), tt))))
@@ -41,23 +41,14 @@ returns-in_err-erase_run-clause-done g c faithful = λ wanted known was now t wr
 pub returns-in_err-erase_run-2-clause-done : goal.returns-in_err-erase_run-2-clause-done
 returns-in_err-erase_run-2-clause-done g c faithful = λ wanted known was now t writes holds roots.
     let n = c.args.run in
-    let after_one = c.erase_run-2.ensures.keeps.stays.clean faithful in
+    let after_one = c.erase_run-2.ensures.leaves.keeps.stays.clean faithful in
     let p = err_from_is_err_and c.from_residual-in_err-erase_run-2.result c.from_residual-in_err-erase_run-2.ensures.1 in
     rw (p.1, p.2) (after (events_out n c.erase_run.new.file wanted known was now t holds (c.in_ok-erase_run.ensures.done after_one schema_two wanted known was now run_event_at
     (table_at c.args.file.now writes holds 2 run_event_at refl _ roots.events (key_at c.args.file.now writes holds 1 _ refl refl _ roots.event_places refl, (key_at c.args.file.now writes holds 2 _ refl refl _ roots.event_names refl, tt)))
     ((2 ∷ [], refl), ((3 ∷ [], refl), tt))))
-    (λ events writes_one holds_one. (store_fails_later c.args.file.now c.erase_run.new.file c.erase_run-2.new.file _ c.erase_run.ensures.keeps (λ _. tt) (c.in_err-erase_run-2.ensures.done faithful schema_two wanted known was events derived_at
+    (λ events writes_one holds_one. (store_fails_later c.args.file.now c.erase_run.new.file c.erase_run-2.new.file _ c.erase_run.ensures.leaves.keeps (λ _. tt) (c.in_err-erase_run-2.ensures.done faithful schema_two wanted known was events derived_at
     (table_at c.erase_run.new.file writes_one holds_one 3 derived_at refl _ roots.derived (key_at c.erase_run.new.file writes_one holds_one 3 _ refl refl _ roots.derived_places refl, (key_at c.erase_run.new.file writes_one holds_one 4 _ refl refl _ roots.derived_names refl, tt)))
     ((2 ∷ [], refl), ((3 ∷ [], refl), tt))))))
 
-pub returns-in_err-erase_run-clause-usable : goal.returns-in_err-erase_run-clause-usable
-returns-in_err-erase_run-clause-usable g c = IfOk-from_err c.from_residual.result _ c.from_residual.ensures.0
-
-pub returns-in_err-erase_run-clause-keeps : goal.returns-in_err-erase_run-clause-keeps
-returns-in_err-erase_run-clause-keeps g c = c.erase_run.ensures.keeps
-
-pub returns-in_err-erase_run-2-clause-usable : goal.returns-in_err-erase_run-2-clause-usable
-returns-in_err-erase_run-2-clause-usable g c = IfOk-from_err c.from_residual-in_err-erase_run-2.result _ c.from_residual-in_err-erase_run-2.ensures.0
-
-pub returns-clause-usable : goal.returns-clause-usable
-returns-clause-usable g c = c.erase_run-3.ensures.usable
+pub returns-in_err-erase_run-clause-leaves : goal.returns-in_err-erase_run-clause-leaves
+returns-in_err-erase_run-clause-leaves g c = record { usable = IfOk-from_err c.from_residual.result _ c.from_residual.ensures.0; keeps = c.erase_run.ensures.leaves.keeps }

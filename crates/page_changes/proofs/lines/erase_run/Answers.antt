@@ -15,14 +15,8 @@ pub returns-in-Err-clause-done : goal.returns-in-Err-clause-done
 returns-in-Err-clause-done g c faithful = λ schema wanted roots was now table shows led.
     row_fails c.args.file.now c.erase_under.new.file c.in-Err.error _ c.error_of_row.ensures (c.in-Err.ensures.done faithful schema wanted roots was now table shows led)
 
-pub returns-in-Ok-clause-usable : goal.returns-in-Ok-clause-usable
-returns-in-Ok-clause-usable g c = c.in-Ok.ensures.usable
+pub returns-in-Ok-clause-leaves : goal.returns-in-Ok-clause-leaves
+returns-in-Ok-clause-leaves g c = record { usable = c.in-Ok.ensures.leaves.usable; keeps = c.erase_under.ensures.leaves.keeps }
 
-pub returns-in-Ok-clause-keeps : goal.returns-in-Ok-clause-keeps
-returns-in-Ok-clause-keeps g c = c.erase_under.ensures.keeps
-
-pub returns-in-Err-clause-usable : goal.returns-in-Err-clause-usable
-returns-in-Err-clause-usable g c = tt
-
-pub returns-in-Err-clause-keeps : goal.returns-in-Err-clause-keeps
-returns-in-Err-clause-keeps g c = c.erase_under.ensures.keeps
+pub returns-in-Err-clause-leaves : goal.returns-in-Err-clause-leaves
+returns-in-Err-clause-leaves g c = record { usable = tt; keeps = c.erase_under.ensures.leaves.keeps }

@@ -24,14 +24,8 @@ returns-in-Err-clause-done g c faithful = λ wanted known was now t writes holds
     row_fails file c.erase_where.new.file c.in-Err.error _ c.error_of_row.ensures (c.in-Err.ensures.done faithful schema_two wanted known was now member_at
     (table_at file writes holds 9 member_at refl _ roots.members (key_at file writes holds 10 _ refl refl _ roots.member_keys refl, tt)) tt)
 
-pub returns-in-Ok-clause-usable : goal.returns-in-Ok-clause-usable
-returns-in-Ok-clause-usable g c = c.in-Ok.ensures.usable
+pub returns-in-Ok-clause-leaves : goal.returns-in-Ok-clause-leaves
+returns-in-Ok-clause-leaves g c = record { usable = c.in-Ok.ensures.leaves.usable; keeps = c.erase_where.ensures.leaves.keeps }
 
-pub returns-in-Ok-clause-keeps : goal.returns-in-Ok-clause-keeps
-returns-in-Ok-clause-keeps g c = c.erase_where.ensures.keeps
-
-pub returns-in-Err-clause-usable : goal.returns-in-Err-clause-usable
-returns-in-Err-clause-usable g c = tt
-
-pub returns-in-Err-clause-keeps : goal.returns-in-Err-clause-keeps
-returns-in-Err-clause-keeps g c = c.erase_where.ensures.keeps
+pub returns-in-Err-clause-leaves : goal.returns-in-Err-clause-leaves
+returns-in-Err-clause-leaves g c = record { usable = tt; keeps = c.erase_where.ensures.leaves.keeps }

@@ -33,14 +33,8 @@ returns-in_err-columns-clause-done g c clean = λ wanted known was now t writes 
     let p = err_from_is_err_and c.from_residual.result c.from_residual.ensures.1 in
     rw (p.1, p.2) (memory_fails c.args.file.now c.args.file.now _ c.in_err-columns.ensures.failed)
 
-pub returns-in_err-columns-clause-usable : goal.returns-in_err-columns-clause-usable
-returns-in_err-columns-clause-usable g c = IfOk-from_err c.from_residual.result _ c.from_residual.ensures.0
+pub returns-in_err-columns-clause-leaves : goal.returns-in_err-columns-clause-leaves
+returns-in_err-columns-clause-leaves g c = record { usable = IfOk-from_err c.from_residual.result _ c.from_residual.ensures.0; keeps = Keeps-refl _ }
 
-pub returns-in_err-columns-clause-keeps : goal.returns-in_err-columns-clause-keeps
-returns-in_err-columns-clause-keeps g c = Keeps-refl _
-
-pub returns-clause-usable : goal.returns-clause-usable
-returns-clause-usable g c = c.put_behind.ensures.usable
-
-pub returns-clause-keeps : goal.returns-clause-keeps
-returns-clause-keeps g c = c.put_behind.ensures.keeps
+pub returns-clause-leaves : goal.returns-clause-leaves
+returns-clause-leaves g c = c.put_behind.ensures.leaves

@@ -24,8 +24,5 @@ returns-clause-done g c clean = λ wanted known was now t writes holds are any.
     (λ e fails. fails)
     (c.erase_named.ensures.done clean schema_two wanted known was now member_at shows)
 
-pub returns-clause-usable : goal.returns-clause-usable
-returns-clause-usable g c = c.erase_named.ensures.usable
-
-pub returns-clause-keeps : goal.returns-clause-keeps
-returns-clause-keeps g c = c.erase_named.ensures.keeps
+pub returns-clause-leaves : goal.returns-clause-leaves
+returns-clause-leaves g c = c.erase_named.ensures.leaves

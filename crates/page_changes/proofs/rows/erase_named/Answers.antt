@@ -14,7 +14,7 @@ pub returns-in-Ok-clause-done : goal.returns-in-Ok-clause-done
 returns-in-Ok-clause-done g c faithful = λ schema wanted roots was now table shows.
     let old = c.args.file.now in
     let mid = c.find_named.new.file in
-    let before = c.erase.ensures.keeps.stays.clean faithful in
+    let before = c.erase.ensures.leaves.keeps.stays.clean faithful in
     let at = table_shows old shows in
     let found = c.in_ok-row.ensures.found before (now table.tree) (record { wanted = wanted; t = table.tree; shows = at.0; rows_are = at.1 }) in
     let row = c.in-Some.row in
@@ -24,11 +24,11 @@ returns-in-Ok-clause-done g c faithful = λ schema wanted roots was now table sh
     let h = c.in-Ok.ensures.done faithful schema wanted roots was now table (record { writes = w; placed = shows.placed; indexed = shows.indexed }) tt in
     record { row = row; found = there; rows = subst (λ z. HasRows schema wanted roots was now table (without_rowid z (now table.tree)) c.erase.new.file) (to_z-of_z there.fits) h }
 
-pub returns-in-Ok-clause-keeps : goal.returns-in-Ok-clause-keeps
-returns-in-Ok-clause-keeps g c = Keeps-trans _ _ _ c.find_named.ensures.reads.keeps c.erase.ensures.keeps
+pub returns-in-Ok-clause-leaves : goal.returns-in-Ok-clause-leaves
+returns-in-Ok-clause-leaves g c = record { usable = c.in-Ok.ensures.leaves.usable; keeps = Keeps-trans _ _ _ c.find_named.ensures.reads.keeps c.erase.ensures.leaves.keeps }
 
-pub returns-in-Err-clause-keeps : goal.returns-in-Err-clause-keeps
-returns-in-Err-clause-keeps g c = Keeps-trans _ _ _ c.find_named.ensures.reads.keeps c.erase.ensures.keeps
+pub returns-in-Err-clause-leaves : goal.returns-in-Err-clause-leaves
+returns-in-Err-clause-leaves g c = record { usable = tt; keeps = Keeps-trans _ _ _ c.find_named.ensures.reads.keeps c.erase.ensures.leaves.keeps }
 
 pub returns-in_err-row-clause-done : goal.returns-in_err-row-clause-done
 returns-in_err-row-clause-done g c faithful = λ schema wanted roots was now table shows.
@@ -54,25 +54,13 @@ returns-in-Err-clause-done g c faithful = λ schema wanted roots was now table s
     let old = c.args.file.now in
     let mid = c.find_named.new.file in
     let new = c.erase.new.file in
-    let before = c.erase.ensures.keeps.stays.clean faithful in
+    let before = c.erase.ensures.leaves.keeps.stays.clean faithful in
     let w = writes_after old mid c.find_named.ensures.reads before c.in_ok-row.ensures.usable shows.writes in
     let fails = c.in-Err.ensures.done faithful schema wanted roots was now table (record { writes = w; placed = shows.placed; indexed = shows.indexed }) tt in
     store_fails_later old mid new _ c.find_named.ensures.reads.keeps (λ _. tt) (row_fails mid new c.in-Err.error _ c.error_of_row.ensures fails)
 
-pub returns-in_err-row-clause-usable : goal.returns-in_err-row-clause-usable
-returns-in_err-row-clause-usable g c = IfOk-from_err c.from_residual.result _ c.from_residual.ensures.0
+pub returns-in_err-row-clause-leaves : goal.returns-in_err-row-clause-leaves
+returns-in_err-row-clause-leaves g c = record { usable = IfOk-from_err c.from_residual.result _ c.from_residual.ensures.0; keeps = c.find_named.ensures.reads.keeps }
 
-pub returns-in_err-row-clause-keeps : goal.returns-in_err-row-clause-keeps
-returns-in_err-row-clause-keeps g c = c.find_named.ensures.reads.keeps
-
-pub returns-in_default-clause-usable : goal.returns-in_default-clause-usable
-returns-in_default-clause-usable g c = tt
-
-pub returns-in_default-clause-keeps : goal.returns-in_default-clause-keeps
-returns-in_default-clause-keeps g c = c.find_named.ensures.reads.keeps
-
-pub returns-in-Ok-clause-usable : goal.returns-in-Ok-clause-usable
-returns-in-Ok-clause-usable g c = c.in-Ok.ensures.usable
-
-pub returns-in-Err-clause-usable : goal.returns-in-Err-clause-usable
-returns-in-Err-clause-usable g c = tt
+pub returns-in_default-clause-leaves : goal.returns-in_default-clause-leaves
+returns-in_default-clause-leaves g c = record { usable = tt; keeps = c.find_named.ensures.reads.keeps }

@@ -26,7 +26,7 @@ returns-in-Ok-clause-done g c faithful = λ wanted known was now t writes holds 
     let mid = c.find_named.new.file in
     let name = c.args.name.now in
     let run = c.args.run in
-    let before = c.replace.ensures.keeps.stays.clean faithful in
+    let before = c.replace.ensures.leaves.keeps.stays.clean faithful in
     let shows = groups_at old writes holds c.args.roots.now are _ _ refl refl refl refl in
     let at = table_shows old shows in
     let found = c.in_ok-row.ensures.found before (now 19) (record { wanted = wanted; t = 19; shows = at.0; rows_are = at.1 }) in
@@ -44,11 +44,11 @@ returns-in-Ok-clause-done g c faithful = λ wanted known was now t writes holds 
       baseline_put t now holds h.next run row.rowid (record { name = name; baseline = row.number }) there.there h.only (subst (IsShaped shape.Table) (sym h.rows_are) h.shaped) h.rows_are held,
     )
 
-pub returns-in-Ok-clause-keeps : goal.returns-in-Ok-clause-keeps
-returns-in-Ok-clause-keeps g c = Keeps-trans _ _ _ c.find_named.ensures.reads.keeps c.replace.ensures.keeps
+pub returns-in-Ok-clause-leaves : goal.returns-in-Ok-clause-leaves
+returns-in-Ok-clause-leaves g c = record { usable = c.in-Ok.ensures.leaves.usable; keeps = Keeps-trans _ _ _ c.find_named.ensures.reads.keeps c.replace.ensures.leaves.keeps }
 
-pub returns-clause-keeps : goal.returns-clause-keeps
-returns-clause-keeps g c = Keeps-trans _ _ _ c.find_named.ensures.reads.keeps c.replace.ensures.keeps
+pub returns-clause-leaves : goal.returns-clause-leaves
+returns-clause-leaves g c = record { usable = tt; keeps = Keeps-trans _ _ _ c.find_named.ensures.reads.keeps c.replace.ensures.leaves.keeps }
 
 pub returns-in_err-columns-clause-done : goal.returns-in_err-columns-clause-done
 returns-in_err-columns-clause-done g c clean = λ wanted known was now t writes holds are held.
@@ -79,7 +79,7 @@ returns-clause-done g c faithful = λ wanted known was now t writes holds are he
     let new = c.replace.new.file in
     let name = c.args.name.now in
     let run = c.args.run in
-    let before = c.replace.ensures.keeps.stays.clean faithful in
+    let before = c.replace.ensures.leaves.keeps.stays.clean faithful in
     let shows = groups_at old writes holds c.args.roots.now are _ _ refl refl refl refl in
     let at = table_shows old shows in
     let found = c.in_ok-row.ensures.found before (now 19) (record { wanted = wanted; t = 19; shows = at.0; rows_are = at.1 }) in
@@ -95,26 +95,11 @@ returns-clause-done g c faithful = λ wanted known was now t writes holds are he
     (λ (can : CanPutBaseline name run now). subst₂ (λ (n : ℤ) (r : Row). IsStorableRow 0 (Int n ∷ r)) (sym same) (sym c.in_ok-columns.ensures.made) (can.room row.rowid row.number there.there))
     (row_fails mid new c.in-Err.error _ c.error_of_row.ensures fails)
 
-pub returns-in_err-columns-clause-usable : goal.returns-in_err-columns-clause-usable
-returns-in_err-columns-clause-usable g c = IfOk-from_err c.from_residual.result _ c.from_residual.ensures.0
+pub returns-in_err-columns-clause-leaves : goal.returns-in_err-columns-clause-leaves
+returns-in_err-columns-clause-leaves g c = record { usable = IfOk-from_err c.from_residual.result _ c.from_residual.ensures.0; keeps = Keeps-refl _ }
 
-pub returns-in_err-columns-clause-keeps : goal.returns-in_err-columns-clause-keeps
-returns-in_err-columns-clause-keeps g c = Keeps-refl _
+pub returns-in_err-row-clause-leaves : goal.returns-in_err-row-clause-leaves
+returns-in_err-row-clause-leaves g c = record { usable = IfOk-from_err c.from_residual-in_err-row.result _ c.from_residual-in_err-row.ensures.0; keeps = c.find_named.ensures.reads.keeps }
 
-pub returns-in_err-row-clause-usable : goal.returns-in_err-row-clause-usable
-returns-in_err-row-clause-usable g c = IfOk-from_err c.from_residual-in_err-row.result _ c.from_residual-in_err-row.ensures.0
-
-pub returns-in_err-row-clause-keeps : goal.returns-in_err-row-clause-keeps
-returns-in_err-row-clause-keeps g c = c.find_named.ensures.reads.keeps
-
-pub returns-in_default-clause-usable : goal.returns-in_default-clause-usable
-returns-in_default-clause-usable g c = tt
-
-pub returns-in_default-clause-keeps : goal.returns-in_default-clause-keeps
-returns-in_default-clause-keeps g c = c.find_named.ensures.reads.keeps
-
-pub returns-in-Ok-clause-usable : goal.returns-in-Ok-clause-usable
-returns-in-Ok-clause-usable g c = c.in-Ok.ensures.usable
-
-pub returns-clause-usable : goal.returns-clause-usable
-returns-clause-usable g c = tt
+pub returns-in_default-clause-leaves : goal.returns-in_default-clause-leaves
+returns-in_default-clause-leaves g c = record { usable = tt; keeps = c.find_named.ensures.reads.keeps }

@@ -13,18 +13,18 @@ pub returns-in-Ok-insert-clause-done : goal.returns-in-Ok-insert-clause-done
 returns-in-Ok-insert-clause-done g c faithful = λ schema wanted roots was now table shows.
     let old = c.args.file.now in
     let mid = c.free_rowid.new.file in
-    let before = c.insert.ensures.keeps.stays.clean faithful in
+    let before = c.insert.ensures.leaves.keeps.stays.clean faithful in
     let told = c.in-Ok.ensures.done before schema wanted roots was now table shows in
     let w = writes_after old mid c.free_rowid.ensures.reads before c.in-Ok.ensures.usable shows.writes in
     let same : to_z w64 (of_z w64 c.in-Ok.rowid) ≡ c.in-Ok.rowid = search (rules, to_z-of_z) in
     let h = c.in-Ok-insert.ensures.done faithful schema wanted roots was now table (record { writes = w; placed = shows.placed; indexed = shows.indexed }) (subst (λ z. AreBelow (Int z) (now table.tree)) (sym same) told.1) in
     subst (λ z. HasRows schema wanted roots was now table (now table.tree ++ (Int z ∷ c.args.columns.now) ∷ []) c.insert.new.file) (same ∙ told.0) h
 
-pub returns-in-Ok-insert-clause-keeps : goal.returns-in-Ok-insert-clause-keeps
-returns-in-Ok-insert-clause-keeps g c = Keeps-trans _ _ _ c.free_rowid.ensures.reads.keeps c.insert.ensures.keeps
+pub returns-in-Ok-insert-clause-leaves : goal.returns-in-Ok-insert-clause-leaves
+returns-in-Ok-insert-clause-leaves g c = record { usable = c.in-Ok-insert.ensures.leaves.usable; keeps = Keeps-trans _ _ _ c.free_rowid.ensures.reads.keeps c.insert.ensures.leaves.keeps }
 
-pub returns-in-Err-insert-clause-keeps : goal.returns-in-Err-insert-clause-keeps
-returns-in-Err-insert-clause-keeps g c = Keeps-trans _ _ _ c.free_rowid.ensures.reads.keeps c.insert.ensures.keeps
+pub returns-in-Err-insert-clause-leaves : goal.returns-in-Err-insert-clause-leaves
+returns-in-Err-insert-clause-leaves g c = record { usable = tt; keeps = Keeps-trans _ _ _ c.free_rowid.ensures.reads.keeps c.insert.ensures.leaves.keeps }
 
 pub returns-in-Err-clause-done : goal.returns-in-Err-clause-done
 returns-in-Err-clause-done g c faithful = λ schema wanted roots was now table shows.
@@ -36,7 +36,7 @@ returns-in-Err-insert-clause-done g c faithful = λ schema wanted roots was now 
     let old = c.args.file.now in
     let mid = c.free_rowid.new.file in
     let new = c.insert.new.file in
-    let before = c.insert.ensures.keeps.stays.clean faithful in
+    let before = c.insert.ensures.leaves.keeps.stays.clean faithful in
     let told = c.in-Ok.ensures.done before schema wanted roots was now table shows in
     let w = writes_after old mid c.free_rowid.ensures.reads before c.in-Ok.ensures.usable shows.writes in
     let same : to_z w64 (of_z w64 c.in-Ok.rowid) ≡ c.in-Ok.rowid = search (rules, to_z-of_z) in
@@ -45,14 +45,5 @@ returns-in-Err-insert-clause-done g c faithful = λ schema wanted roots was now 
     (λ can. subst (λ z. IsStorableRow 0 (Int z ∷ c.args.columns.now) × AreStorable (Int z ∷ c.args.columns.now) (indexes_of schema table)) (sym (same ∙ told.0)) (can.row, can.entries))
     (row_fails mid new c.in-Err-insert.error _ c.error_of_row-in-Err-insert.ensures fails)
 
-pub returns-in-Err-clause-usable : goal.returns-in-Err-clause-usable
-returns-in-Err-clause-usable g c = tt
-
-pub returns-in-Err-clause-keeps : goal.returns-in-Err-clause-keeps
-returns-in-Err-clause-keeps g c = c.free_rowid.ensures.reads.keeps
-
-pub returns-in-Ok-insert-clause-usable : goal.returns-in-Ok-insert-clause-usable
-returns-in-Ok-insert-clause-usable g c = c.in-Ok-insert.ensures.usable
-
-pub returns-in-Err-insert-clause-usable : goal.returns-in-Err-insert-clause-usable
-returns-in-Err-insert-clause-usable g c = tt
+pub returns-in-Err-clause-leaves : goal.returns-in-Err-clause-leaves
+returns-in-Err-clause-leaves g c = record { usable = tt; keeps = c.free_rowid.ensures.reads.keeps }

@@ -10,22 +10,20 @@ use Rattle.page_changes.specs.Removed.{CanDrop}
 use Rattle.page_changes.proofs.Results.{so_by, so_by_parts}
 use Rattle.page_changes.proofs.runs.drop_run.Goals as goal
 
-pub returns-in_err-drop_events-clause-keeps : goal.returns-in_err-drop_events-clause-keeps
-returns-in_err-drop_events-clause-keeps g c = Keeps-trans _ _ _ c.find_roots.ensures.reads.keeps c.drop_events.ensures.keeps
+pub returns-in_err-drop_events-clause-leaves : goal.returns-in_err-drop_events-clause-leaves
+returns-in_err-drop_events-clause-leaves g c = record { usable = IfOk-from_err c.from_residual-in_err-drop_events.result _ c.from_residual-in_err-drop_events.ensures.0; keeps = Keeps-trans _ _ _ c.find_roots.ensures.reads.keeps c.drop_events.ensures.leaves.keeps }
 
-pub returns-in_err-drop_costs-clause-keeps : goal.returns-in_err-drop_costs-clause-keeps
-returns-in_err-drop_costs-clause-keeps g c = Keeps-trans _ _ _ (Keeps-trans _ _ _ c.find_roots.ensures.reads.keeps c.drop_events.ensures.keeps) c.drop_costs.ensures.keeps
+pub returns-in_err-drop_costs-clause-leaves : goal.returns-in_err-drop_costs-clause-leaves
+returns-in_err-drop_costs-clause-leaves g c = record { usable = IfOk-from_err c.from_residual-in_err-drop_costs.result _ c.from_residual-in_err-drop_costs.ensures.0; keeps = Keeps-trans _ _ _ (Keeps-trans _ _ _ c.find_roots.ensures.reads.keeps c.drop_events.ensures.leaves.keeps) c.drop_costs.ensures.leaves.keeps }
 
-pub returns-in_err-drop_members-clause-keeps : goal.returns-in_err-drop_members-clause-keeps
-returns-in_err-drop_members-clause-keeps g c = Keeps-trans _ _ _ (Keeps-trans _ _ _ (Keeps-trans _ _ _ c.find_roots.ensures.reads.keeps c.drop_events.ensures.keeps) c.drop_costs.ensures.keeps) c.drop_members.ensures.keeps
+pub returns-in_err-drop_members-clause-leaves : goal.returns-in_err-drop_members-clause-leaves
+returns-in_err-drop_members-clause-leaves g c = record { usable = IfOk-from_err c.from_residual-in_err-drop_members.result _ c.from_residual-in_err-drop_members.ensures.0; keeps = Keeps-trans _ _ _ (Keeps-trans _ _ _ (Keeps-trans _ _ _ c.find_roots.ensures.reads.keeps c.drop_events.ensures.leaves.keeps) c.drop_costs.ensures.leaves.keeps) c.drop_members.ensures.leaves.keeps }
 
-pub returns-in_err-clear_baselines-clause-keeps : goal.returns-in_err-clear_baselines-clause-keeps
-returns-in_err-clear_baselines-clause-keeps g c =
-    Keeps-trans _ _ _ (Keeps-trans _ _ _ (Keeps-trans _ _ _ (Keeps-trans _ _ _ c.find_roots.ensures.reads.keeps c.drop_events.ensures.keeps) c.drop_costs.ensures.keeps) c.drop_members.ensures.keeps) c.clear_baselines.ensures.keeps
+pub returns-in_err-clear_baselines-clause-leaves : goal.returns-in_err-clear_baselines-clause-leaves
+returns-in_err-clear_baselines-clause-leaves g c = record { usable = IfOk-from_err c.from_residual-in_err-clear_baselines.result _ c.from_residual-in_err-clear_baselines.ensures.0; keeps = Keeps-trans _ _ _ (Keeps-trans _ _ _ (Keeps-trans _ _ _ (Keeps-trans _ _ _ c.find_roots.ensures.reads.keeps c.drop_events.ensures.leaves.keeps) c.drop_costs.ensures.leaves.keeps) c.drop_members.ensures.leaves.keeps) c.clear_baselines.ensures.leaves.keeps }
 
-pub returns-clause-keeps : goal.returns-clause-keeps
-returns-clause-keeps g c =
-    Keeps-trans _ _ _ (Keeps-trans _ _ _ (Keeps-trans _ _ _ (Keeps-trans _ _ _ (Keeps-trans _ _ _ c.find_roots.ensures.reads.keeps c.drop_events.ensures.keeps) c.drop_costs.ensures.keeps) c.drop_members.ensures.keeps) c.clear_baselines.ensures.keeps) c.drop_its_row.ensures.keeps
+pub returns-clause-leaves : goal.returns-clause-leaves
+returns-clause-leaves g c = record { usable = c.drop_its_row.ensures.leaves.usable; keeps = Keeps-trans _ _ _ (Keeps-trans _ _ _ (Keeps-trans _ _ _ (Keeps-trans _ _ _ (Keeps-trans _ _ _ c.find_roots.ensures.reads.keeps c.drop_events.ensures.leaves.keeps) c.drop_costs.ensures.leaves.keeps) c.drop_members.ensures.leaves.keeps) c.clear_baselines.ensures.leaves.keeps) c.drop_its_row.ensures.leaves.keeps }
 
 pub returns-then-not-has_run-clause-done : goal.returns-then-not-has_run-clause-done
 returns-then-not-has_run-clause-done g c faithful = λ wanted known db t rests holds listed.
@@ -43,7 +41,7 @@ pub returns-in_err-drop_events-clause-done : goal.returns-in_err-drop_events-cla
 returns-in_err-drop_events-clause-done g c faithful = λ wanted known db t rests holds listed.
     let old = c.args.file.now in
     let read = c.find_roots.new.file in
-    let before = c.drop_events.ensures.keeps.stays.clean faithful in
+    let before = c.drop_events.ensures.leaves.keeps.stays.clean faithful in
     let roots = c.in_ok-roots.ensures.found before db known (store_resting old db known wanted rests holds.contain.sound) in
     let w = begins read (rests_after old read c.find_roots.ensures.reads before c.in_ok-roots.ensures.usable rests) in
     let p = err_from_is_err_and c.from_residual-in_err-drop_events.result c.from_residual-in_err-drop_events.ensures.1 in
@@ -53,9 +51,9 @@ pub returns-in_err-drop_costs-clause-done : goal.returns-in_err-drop_costs-claus
 returns-in_err-drop_costs-clause-done g c faithful = λ wanted known db t rests holds listed.
     let old = c.args.file.now in
     let read = c.find_roots.new.file in
-    let after_one = c.drop_costs.ensures.keeps.stays.clean faithful in
-    let before = c.drop_events.ensures.keeps.stays.clean after_one in
-    let keeps = Keeps-trans _ _ _ c.find_roots.ensures.reads.keeps c.drop_events.ensures.keeps in
+    let after_one = c.drop_costs.ensures.leaves.keeps.stays.clean faithful in
+    let before = c.drop_events.ensures.leaves.keeps.stays.clean after_one in
+    let keeps = Keeps-trans _ _ _ c.find_roots.ensures.reads.keeps c.drop_events.ensures.leaves.keeps in
     let p = err_from_is_err_and c.from_residual-in_err-drop_costs.result c.from_residual-in_err-drop_costs.ensures.1 in
     rw (p.1, p.2) (so_by (c.in_ok-roots.ensures.found before db known (store_resting old db known wanted rests holds.contain.sound)) (λ roots.
     so_by_parts (c.in_ok-drop_events.ensures.done after_one wanted known db db t (begins read (rests_after old read c.find_roots.ensures.reads before c.in_ok-roots.ensures.usable rests)) holds roots) (λ now_0 writes_0 holds_0.
@@ -65,10 +63,10 @@ pub returns-in_err-drop_members-clause-done : goal.returns-in_err-drop_members-c
 returns-in_err-drop_members-clause-done g c faithful = λ wanted known db t rests holds listed.
     let old = c.args.file.now in
     let read = c.find_roots.new.file in
-    let after_two = c.drop_members.ensures.keeps.stays.clean faithful in
-    let after_one = c.drop_costs.ensures.keeps.stays.clean after_two in
-    let before = c.drop_events.ensures.keeps.stays.clean after_one in
-    let keeps = Keeps-trans _ _ _ (Keeps-trans _ _ _ c.find_roots.ensures.reads.keeps c.drop_events.ensures.keeps) c.drop_costs.ensures.keeps in
+    let after_two = c.drop_members.ensures.leaves.keeps.stays.clean faithful in
+    let after_one = c.drop_costs.ensures.leaves.keeps.stays.clean after_two in
+    let before = c.drop_events.ensures.leaves.keeps.stays.clean after_one in
+    let keeps = Keeps-trans _ _ _ (Keeps-trans _ _ _ c.find_roots.ensures.reads.keeps c.drop_events.ensures.leaves.keeps) c.drop_costs.ensures.leaves.keeps in
     let p = err_from_is_err_and c.from_residual-in_err-drop_members.result c.from_residual-in_err-drop_members.ensures.1 in
     rw (p.1, p.2) (so_by (c.in_ok-roots.ensures.found before db known (store_resting old db known wanted rests holds.contain.sound)) (λ roots.
     so_by_parts (c.in_ok-drop_events.ensures.done after_one wanted known db db t (begins read (rests_after old read c.find_roots.ensures.reads before c.in_ok-roots.ensures.usable rests)) holds roots) (λ now_0 writes_0 holds_0.
@@ -79,11 +77,11 @@ pub returns-in_err-clear_baselines-clause-done : goal.returns-in_err-clear_basel
 returns-in_err-clear_baselines-clause-done g c faithful = λ wanted known db t rests holds listed.
     let old = c.args.file.now in
     let read = c.find_roots.new.file in
-    let after_three = c.clear_baselines.ensures.keeps.stays.clean faithful in
-    let after_two = c.drop_members.ensures.keeps.stays.clean after_three in
-    let after_one = c.drop_costs.ensures.keeps.stays.clean after_two in
-    let before = c.drop_events.ensures.keeps.stays.clean after_one in
-    let keeps = Keeps-trans _ _ _ (Keeps-trans _ _ _ (Keeps-trans _ _ _ c.find_roots.ensures.reads.keeps c.drop_events.ensures.keeps) c.drop_costs.ensures.keeps) c.drop_members.ensures.keeps in
+    let after_three = c.clear_baselines.ensures.leaves.keeps.stays.clean faithful in
+    let after_two = c.drop_members.ensures.leaves.keeps.stays.clean after_three in
+    let after_one = c.drop_costs.ensures.leaves.keeps.stays.clean after_two in
+    let before = c.drop_events.ensures.leaves.keeps.stays.clean after_one in
+    let keeps = Keeps-trans _ _ _ (Keeps-trans _ _ _ (Keeps-trans _ _ _ c.find_roots.ensures.reads.keeps c.drop_events.ensures.leaves.keeps) c.drop_costs.ensures.leaves.keeps) c.drop_members.ensures.leaves.keeps in
     let p = err_from_is_err_and c.from_residual-in_err-clear_baselines.result c.from_residual-in_err-clear_baselines.ensures.1 in
     rw (p.1, p.2) (so_by (c.in_ok-roots.ensures.found before db known (store_resting old db known wanted rests holds.contain.sound)) (λ roots.
     so_by_parts (c.in_ok-drop_events.ensures.done after_one wanted known db db t (begins read (rests_after old read c.find_roots.ensures.reads before c.in_ok-roots.ensures.usable rests)) holds roots) (λ now_0 writes_0 holds_0.
@@ -95,12 +93,12 @@ pub returns-clause-done : goal.returns-clause-done
 returns-clause-done g c faithful = λ wanted known db t rests holds listed.
     let old = c.args.file.now in
     let read = c.find_roots.new.file in
-    let after_four = c.drop_its_row.ensures.keeps.stays.clean faithful in
-    let after_three = c.clear_baselines.ensures.keeps.stays.clean after_four in
-    let after_two = c.drop_members.ensures.keeps.stays.clean after_three in
-    let after_one = c.drop_costs.ensures.keeps.stays.clean after_two in
-    let before = c.drop_events.ensures.keeps.stays.clean after_one in
-    let keeps = Keeps-trans _ _ _ (Keeps-trans _ _ _ (Keeps-trans _ _ _ (Keeps-trans _ _ _ c.find_roots.ensures.reads.keeps c.drop_events.ensures.keeps) c.drop_costs.ensures.keeps) c.drop_members.ensures.keeps) c.clear_baselines.ensures.keeps in
+    let after_four = c.drop_its_row.ensures.leaves.keeps.stays.clean faithful in
+    let after_three = c.clear_baselines.ensures.leaves.keeps.stays.clean after_four in
+    let after_two = c.drop_members.ensures.leaves.keeps.stays.clean after_three in
+    let after_one = c.drop_costs.ensures.leaves.keeps.stays.clean after_two in
+    let before = c.drop_events.ensures.leaves.keeps.stays.clean after_one in
+    let keeps = Keeps-trans _ _ _ (Keeps-trans _ _ _ (Keeps-trans _ _ _ (Keeps-trans _ _ _ c.find_roots.ensures.reads.keeps c.drop_events.ensures.leaves.keeps) c.drop_costs.ensures.leaves.keeps) c.drop_members.ensures.leaves.keeps) c.clear_baselines.ensures.leaves.keeps in
     so_by (c.in_ok-roots.ensures.found before db known (store_resting old db known wanted rests holds.contain.sound)) (λ roots.
     so_by_parts (c.in_ok-drop_events.ensures.done after_one wanted known db db t (begins read (rests_after old read c.find_roots.ensures.reads before c.in_ok-roots.ensures.usable rests)) holds roots) (λ now_0 writes_0 holds_0.
     so_by_parts (c.in_ok-drop_costs.ensures.done after_two wanted known db now_0 _ writes_0 holds_0 roots) (λ now_1 writes_1 holds_1.
@@ -109,29 +107,8 @@ returns-clause-done g c faithful = λ wanted known db t rests holds listed.
     match_result c.drop_its_row.result (λ made. made) (λ e. store_fails_later old c.clear_baselines.new.file c.drop_its_row.new.file e keeps (λ _. tt))
     (c.drop_its_row.ensures.done faithful wanted known db now_3 t writes_3 holds_3 roots))))))
 
-pub returns-then-not-has_run-clause-usable : goal.returns-then-not-has_run-clause-usable
-returns-then-not-has_run-clause-usable g c = tt
+pub returns-then-not-has_run-clause-leaves : goal.returns-then-not-has_run-clause-leaves
+returns-then-not-has_run-clause-leaves g c = record { usable = tt; keeps = Keeps-refl _ }
 
-pub returns-then-not-has_run-clause-keeps : goal.returns-then-not-has_run-clause-keeps
-returns-then-not-has_run-clause-keeps g c = Keeps-refl _
-
-pub returns-in_err-roots-clause-keeps : goal.returns-in_err-roots-clause-keeps
-returns-in_err-roots-clause-keeps g c = c.find_roots.ensures.reads.keeps
-
-pub returns-in_err-roots-clause-usable : goal.returns-in_err-roots-clause-usable
-returns-in_err-roots-clause-usable g c = IfOk-from_err c.from_residual.result _ c.from_residual.ensures.0
-
-pub returns-in_err-drop_events-clause-usable : goal.returns-in_err-drop_events-clause-usable
-returns-in_err-drop_events-clause-usable g c = IfOk-from_err c.from_residual-in_err-drop_events.result _ c.from_residual-in_err-drop_events.ensures.0
-
-pub returns-in_err-drop_costs-clause-usable : goal.returns-in_err-drop_costs-clause-usable
-returns-in_err-drop_costs-clause-usable g c = IfOk-from_err c.from_residual-in_err-drop_costs.result _ c.from_residual-in_err-drop_costs.ensures.0
-
-pub returns-in_err-drop_members-clause-usable : goal.returns-in_err-drop_members-clause-usable
-returns-in_err-drop_members-clause-usable g c = IfOk-from_err c.from_residual-in_err-drop_members.result _ c.from_residual-in_err-drop_members.ensures.0
-
-pub returns-in_err-clear_baselines-clause-usable : goal.returns-in_err-clear_baselines-clause-usable
-returns-in_err-clear_baselines-clause-usable g c = IfOk-from_err c.from_residual-in_err-clear_baselines.result _ c.from_residual-in_err-clear_baselines.ensures.0
-
-pub returns-clause-usable : goal.returns-clause-usable
-returns-clause-usable g c = c.drop_its_row.ensures.usable
+pub returns-in_err-roots-clause-leaves : goal.returns-in_err-roots-clause-leaves
+returns-in_err-roots-clause-leaves g c = record { usable = IfOk-from_err c.from_residual.result _ c.from_residual.ensures.0; keeps = c.find_roots.ensures.reads.keeps }

@@ -27,8 +27,5 @@ returns-clause-done g c run clean = λ wanted known was t shows are can.
       kept = filled_keeps derived_at now made.next refl made.filled.spared;
     }) (λ e. fails_for file c.fill.new.file e (subst (λ l. CanBePut derived_at l now) (sym columns))) (c.fill.ensures.done clean schema_two wanted known was now derived_at at)
 
-pub returns-clause-usable : goal.returns-clause-usable
-returns-clause-usable g c = c.fill.ensures.usable
-
-pub returns-clause-keeps : goal.returns-clause-keeps
-returns-clause-keeps g c = c.fill.ensures.keeps
+pub returns-clause-leaves : goal.returns-clause-leaves
+returns-clause-leaves g c = c.fill.ensures.leaves

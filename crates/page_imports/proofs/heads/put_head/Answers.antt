@@ -143,8 +143,8 @@ returns-in_err-put_run_row-clause-done g c =
     let more : next ≡ n + 1 = c.in-Some.ensures.1 in
     let p = err_from_is_err_and c.from_residual-in_err-put_run_row.result c.from_residual-in_err-put_run_row.ensures.1 in
     rw (p.1, p.2) (makes_then file c.put_next.new.file c.put_run_row.new.file roots (meta_at ∷ []) (run_at ∷ []) (IsAbove next) (CanAdd n run.digest.now) (CanBegin run head) (with_next next) (with_run (run_row run))
-    c.put_run_row.ensures.keeps.stays.clean (needs_row run head next more) c.in_ok-put_next.ensures.done
-    (λ _ _. CanBeWritten run_at (run_columns (run_row run))) (λ _. CanPutHeadOf run head) {B = ⊤} (Err _) c.put_next.ensures.keeps (λ t now then fits kept. fits.row) c.in_err-put_run_row.ensures.done)
+    c.put_run_row.ensures.leaves.keeps.stays.clean (needs_row run head next more) c.in_ok-put_next.ensures.done
+    (λ _ _. CanBeWritten run_at (run_columns (run_row run))) (λ _. CanPutHeadOf run head) {B = ⊤} (Err _) c.put_next.ensures.leaves.keeps (λ t now then fits kept. fits.row) c.in_err-put_run_row.ensures.done)
 
 pub returns-in_err-put_events-clause-done : goal.returns-in_err-put_events-clause-done
 returns-in_err-put_events-clause-done g c =
@@ -158,11 +158,11 @@ returns-in_err-put_events-clause-done g c =
     let es = map event_row c.deref.result.now in
     let begun : Tables → Tables = λ t. with_run (run_row run) (with_next next t) in
     let two = made_then file c.put_next.new.file c.put_run_row.new.file roots (meta_at ∷ []) (run_at ∷ []) (IsAbove next) (CanAdd n run.digest.now) (CanBegin run head) (with_next next) (with_run (run_row run))
-    c.put_run_row.ensures.keeps.stays.clean (needs_row run head next more) c.in_ok-put_next.ensures.done c.in_ok-put_run_row.ensures.done in
+    c.put_run_row.ensures.leaves.keeps.stays.clean (needs_row run head next more) c.in_ok-put_next.ensures.done c.in_ok-put_run_row.ensures.done in
     let p = err_from_is_err_and c.from_residual-in_err-put_events.result c.from_residual-in_err-put_events.ensures.1 in
     rw (p.1, p.2) (makes_then file c.put_run_row.new.file c.put_events.new.file roots (meta_at ∷ run_at ∷ []) (run_event_at ∷ []) (CanBegin run head) (CanFill (λ t. t.events) (λ line. line.run) n es) (CanBegin run head) begun (with_events es)
-    c.put_events.ensures.keeps.stays.clean (needs_events run head next es (ap (map event_row) c.deref.ensures.value)) two
-    (λ _. CanBePut run_event_at (map event_columns es)) (λ _. CanPutHeadOf run head) {B = ⊤} (Err _) (Keeps-trans _ _ _ c.put_next.ensures.keeps c.put_run_row.ensures.keeps)
+    c.put_events.ensures.leaves.keeps.stays.clean (needs_events run head next es (ap (map event_row) c.deref.ensures.value)) two
+    (λ _. CanBePut run_event_at (map event_columns es)) (λ _. CanPutHeadOf run head) {B = ⊤} (Err _) (Keeps-trans _ _ _ c.put_next.ensures.leaves.keeps c.put_run_row.ensures.leaves.keeps)
     (events_still run head es (ap (map event_row) c.deref.ensures.value)) (c.in_err-put_events.ensures.done n))
 
 pub returns-in_err-put_derived-clause-done : goal.returns-in_err-put_derived-clause-done
@@ -178,13 +178,13 @@ returns-in_err-put_derived-clause-done g c =
     let begun : Tables → Tables = λ t. with_run (run_row run) (with_next next t) in
     let ds = map derived_row c.deref-2.result.now in
     let two = made_then file c.put_next.new.file c.put_run_row.new.file roots (meta_at ∷ []) (run_at ∷ []) (IsAbove next) (CanAdd n run.digest.now) (CanBegin run head) (with_next next) (with_run (run_row run))
-    c.put_run_row.ensures.keeps.stays.clean (needs_row run head next more) c.in_ok-put_next.ensures.done c.in_ok-put_run_row.ensures.done in
+    c.put_run_row.ensures.leaves.keeps.stays.clean (needs_row run head next more) c.in_ok-put_next.ensures.done c.in_ok-put_run_row.ensures.done in
     let three = made_then file c.put_run_row.new.file c.put_events.new.file roots (meta_at ∷ run_at ∷ []) (run_event_at ∷ []) (CanBegin run head) (CanFill (λ t. t.events) (λ line. line.run) n es) (CanBegin run head) begun (with_events es)
-    c.put_events.ensures.keeps.stays.clean (needs_events run head next es (ap (map event_row) c.deref.ensures.value)) two (c.in_ok-put_events.ensures.done n) in
+    c.put_events.ensures.leaves.keeps.stays.clean (needs_events run head next es (ap (map event_row) c.deref.ensures.value)) two (c.in_ok-put_events.ensures.done n) in
     let p = err_from_is_err_and c.from_residual-in_err-put_derived.result c.from_residual-in_err-put_derived.ensures.1 in
     rw (p.1, p.2) (makes_then file c.put_events.new.file c.put_derived.new.file roots (meta_at ∷ run_at ∷ run_event_at ∷ []) (derived_at ∷ []) (CanBegin run head) (CanFill (λ t. t.derived) (λ line. line.run) n ds) (CanBegin run head)
-    (λ t. with_events es (begun t)) (with_derived ds) c.put_derived.ensures.keeps.stays.clean (needs_derived run head next es ds (ap (map derived_row) c.deref-2.ensures.value)) three
-    (λ _. CanBePut derived_at (map derived_columns ds)) (λ _. CanPutHeadOf run head) {B = ⊤} (Err _) (Keeps-trans _ _ _ (Keeps-trans _ _ _ c.put_next.ensures.keeps c.put_run_row.ensures.keeps) c.put_events.ensures.keeps)
+    (λ t. with_events es (begun t)) (with_derived ds) c.put_derived.ensures.leaves.keeps.stays.clean (needs_derived run head next es ds (ap (map derived_row) c.deref-2.ensures.value)) three
+    (λ _. CanBePut derived_at (map derived_columns ds)) (λ _. CanPutHeadOf run head) {B = ⊤} (Err _) (Keeps-trans _ _ _ (Keeps-trans _ _ _ c.put_next.ensures.leaves.keeps c.put_run_row.ensures.leaves.keeps) c.put_events.ensures.leaves.keeps)
     (derived_still run head ds (ap (map derived_row) c.deref-2.ensures.value)) (c.in_err-put_derived.ensures.done n))
 
 pub returns-clause-done : goal.returns-clause-done
@@ -201,14 +201,14 @@ returns-clause-done g c =
     let ds = map derived_row c.deref-2.result.now in
     let ks = map coef_row c.deref-3.result.now in
     let begun : Tables → Tables = λ t. with_run (run_row run) (with_next next t) in
-    let after_3 = c.put_coefs.ensures.keeps.stays.clean in
+    let after_3 = c.put_coefs.ensures.leaves.keeps.stays.clean in
     let two = made_then file c.put_next.new.file c.put_run_row.new.file roots (meta_at ∷ []) (run_at ∷ []) (IsAbove next) (CanAdd n run.digest.now) (CanBegin run head) (with_next next) (with_run (run_row run))
-    c.put_run_row.ensures.keeps.stays.clean (needs_row run head next more) c.in_ok-put_next.ensures.done c.in_ok-put_run_row.ensures.done in
+    c.put_run_row.ensures.leaves.keeps.stays.clean (needs_row run head next more) c.in_ok-put_next.ensures.done c.in_ok-put_run_row.ensures.done in
     let three = made_then file c.put_run_row.new.file c.put_events.new.file roots (meta_at ∷ run_at ∷ []) (run_event_at ∷ []) (CanBegin run head) (CanFill (λ t. t.events) (λ line. line.run) n es) (CanBegin run head) begun (with_events es)
-    c.put_events.ensures.keeps.stays.clean (needs_events run head next es (ap (map event_row) c.deref.ensures.value)) two (c.in_ok-put_events.ensures.done n) in
+    c.put_events.ensures.leaves.keeps.stays.clean (needs_events run head next es (ap (map event_row) c.deref.ensures.value)) two (c.in_ok-put_events.ensures.done n) in
     let four = made_then file c.put_events.new.file c.put_derived.new.file roots (meta_at ∷ run_at ∷ run_event_at ∷ []) (derived_at ∷ []) (CanBegin run head) (CanFill (λ t. t.derived) (λ line. line.run) n ds) (CanBegin run head)
-    (λ t. with_events es (begun t)) (with_derived ds) c.put_derived.ensures.keeps.stays.clean (needs_derived run head next es ds (ap (map derived_row) c.deref-2.ensures.value)) three (c.in_ok-put_derived.ensures.done n) in
-    let keeps = Keeps-trans _ _ _ (Keeps-trans _ _ _ (Keeps-trans _ _ _ c.put_next.ensures.keeps c.put_run_row.ensures.keeps) c.put_events.ensures.keeps) c.put_derived.ensures.keeps in
+    (λ t. with_events es (begun t)) (with_derived ds) c.put_derived.ensures.leaves.keeps.stays.clean (needs_derived run head next es ds (ap (map derived_row) c.deref-2.ensures.value)) three (c.in_ok-put_derived.ensures.done n) in
+    let keeps = Keeps-trans _ _ _ (Keeps-trans _ _ _ (Keeps-trans _ _ _ c.put_next.ensures.leaves.keeps c.put_run_row.ensures.leaves.keeps) c.put_events.ensures.leaves.keeps) c.put_derived.ensures.leaves.keeps in
     makes_as file c.put_coefs.new.file roots head_tables (CanBegin run head) (λ t. with_coefs ks (with_derived ds (with_events es (begun t)))) (with_head_of run head) (λ _. CanPutHeadOf run head) c.put_coefs.result
     (same_tables run head next es ds ks suc_is (ap (map event_row) c.deref.ensures.value) (ap (map derived_row) c.deref-2.ensures.value) (ap (map coef_row) c.deref-3.ensures.value))
     (makes_then file c.put_derived.new.file c.put_coefs.new.file roots (meta_at ∷ run_at ∷ run_event_at ∷ derived_at ∷ []) (coef_at ∷ []) (CanBegin run head) (CanFill (λ t. t.coefs) (λ line. line.run) n ks) (CanBegin run head)
@@ -216,41 +216,24 @@ returns-clause-done g c =
     (λ _. CanBePut coef_at (map coef_columns ks)) (λ _. CanPutHeadOf run head) c.put_coefs.result keeps
     (coefs_still run head ks (ap (map coef_row) c.deref-3.ensures.value)) (c.put_coefs.ensures.done n))
 
-pub returns-in_err-put_run_row-clause-keeps : goal.returns-in_err-put_run_row-clause-keeps
-returns-in_err-put_run_row-clause-keeps g c = Keeps-trans _ _ _ c.put_next.ensures.keeps c.put_run_row.ensures.keeps
+pub returns-in_err-put_run_row-clause-leaves : goal.returns-in_err-put_run_row-clause-leaves
+returns-in_err-put_run_row-clause-leaves g c = record { usable = IfOk-from_err c.from_residual-in_err-put_run_row.result _ c.from_residual-in_err-put_run_row.ensures.0; keeps = Keeps-trans _ _ _ c.put_next.ensures.leaves.keeps c.put_run_row.ensures.leaves.keeps }
 
-pub returns-in_err-put_events-clause-keeps : goal.returns-in_err-put_events-clause-keeps
-returns-in_err-put_events-clause-keeps g c = Keeps-trans _ _ _ (Keeps-trans _ _ _ c.put_next.ensures.keeps c.put_run_row.ensures.keeps) c.put_events.ensures.keeps
+pub returns-in_err-put_events-clause-leaves : goal.returns-in_err-put_events-clause-leaves
+returns-in_err-put_events-clause-leaves g c = record { usable = IfOk-from_err c.from_residual-in_err-put_events.result _ c.from_residual-in_err-put_events.ensures.0; keeps = Keeps-trans _ _ _ (Keeps-trans _ _ _ c.put_next.ensures.leaves.keeps c.put_run_row.ensures.leaves.keeps) c.put_events.ensures.leaves.keeps }
 
-pub returns-in_err-put_derived-clause-keeps : goal.returns-in_err-put_derived-clause-keeps
-returns-in_err-put_derived-clause-keeps g c =
-    Keeps-trans _ _ _ (Keeps-trans _ _ _ (Keeps-trans _ _ _ c.put_next.ensures.keeps c.put_run_row.ensures.keeps) c.put_events.ensures.keeps) c.put_derived.ensures.keeps
+pub returns-in_err-put_derived-clause-leaves : goal.returns-in_err-put_derived-clause-leaves
+returns-in_err-put_derived-clause-leaves g c = record { usable = IfOk-from_err c.from_residual-in_err-put_derived.result _ c.from_residual-in_err-put_derived.ensures.0; keeps = Keeps-trans _ _ _ (Keeps-trans _ _ _ (Keeps-trans _ _ _ c.put_next.ensures.leaves.keeps c.put_run_row.ensures.leaves.keeps) c.put_events.ensures.leaves.keeps) c.put_derived.ensures.leaves.keeps }
 
-pub returns-clause-keeps : goal.returns-clause-keeps
-returns-clause-keeps g c =
-    let events = Keeps-trans _ _ _ (Keeps-trans _ _ _ c.put_next.ensures.keeps c.put_run_row.ensures.keeps) c.put_events.ensures.keeps in
-    Keeps-trans _ _ _ (Keeps-trans _ _ _ events c.put_derived.ensures.keeps) c.put_coefs.ensures.keeps
+pub returns-clause-leaves : goal.returns-clause-leaves
+returns-clause-leaves g c = record {
+  usable = c.put_coefs.ensures.leaves.usable;
+  keeps = let events = Keeps-trans _ _ _ (Keeps-trans _ _ _ c.put_next.ensures.leaves.keeps c.put_run_row.ensures.leaves.keeps) c.put_events.ensures.leaves.keeps in
+      Keeps-trans _ _ _ (Keeps-trans _ _ _ events c.put_derived.ensures.leaves.keeps) c.put_coefs.ensures.leaves.keeps;
+}
 
-pub returns-in_err-put_next-clause-usable : goal.returns-in_err-put_next-clause-usable
-returns-in_err-put_next-clause-usable g c = IfOk-from_err c.from_residual.result _ c.from_residual.ensures.0
+pub returns-in_err-put_next-clause-leaves : goal.returns-in_err-put_next-clause-leaves
+returns-in_err-put_next-clause-leaves g c = record { usable = IfOk-from_err c.from_residual.result _ c.from_residual.ensures.0; keeps = c.put_next.ensures.leaves.keeps }
 
-pub returns-in_err-put_run_row-clause-usable : goal.returns-in_err-put_run_row-clause-usable
-returns-in_err-put_run_row-clause-usable g c = IfOk-from_err c.from_residual-in_err-put_run_row.result _ c.from_residual-in_err-put_run_row.ensures.0
-
-pub returns-in_err-put_events-clause-usable : goal.returns-in_err-put_events-clause-usable
-returns-in_err-put_events-clause-usable g c = IfOk-from_err c.from_residual-in_err-put_events.result _ c.from_residual-in_err-put_events.ensures.0
-
-pub returns-in_err-put_derived-clause-usable : goal.returns-in_err-put_derived-clause-usable
-returns-in_err-put_derived-clause-usable g c = IfOk-from_err c.from_residual-in_err-put_derived.result _ c.from_residual-in_err-put_derived.ensures.0
-
-pub returns-in_default-clause-usable : goal.returns-in_default-clause-usable
-returns-in_default-clause-usable g c = tt
-
-pub returns-in_default-clause-keeps : goal.returns-in_default-clause-keeps
-returns-in_default-clause-keeps g c = Keeps-refl _
-
-pub returns-in_err-put_next-clause-keeps : goal.returns-in_err-put_next-clause-keeps
-returns-in_err-put_next-clause-keeps g c = c.put_next.ensures.keeps
-
-pub returns-clause-usable : goal.returns-clause-usable
-returns-clause-usable g c = c.put_coefs.ensures.usable
+pub returns-in_default-clause-leaves : goal.returns-in_default-clause-leaves
+returns-in_default-clause-leaves g c = record { usable = tt; keeps = Keeps-refl _ }

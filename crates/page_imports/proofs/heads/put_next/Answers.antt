@@ -46,20 +46,11 @@ returns-in_err-columns-clause-done g c clean = λ wanted known was t shows are a
     let p = err_from_is_err_and c.from_residual.result c.from_residual.ensures.1 in
     rw p.1 (memory_fails c.args.file.now c.args.file.now p.0 p.2)
 
-pub returns-in_err-columns-clause-usable : goal.returns-in_err-columns-clause-usable
-returns-in_err-columns-clause-usable g c = IfOk-from_err c.from_residual.result _ c.from_residual.ensures.0
+pub returns-in_err-columns-clause-leaves : goal.returns-in_err-columns-clause-leaves
+returns-in_err-columns-clause-leaves g c = record { usable = IfOk-from_err c.from_residual.result _ c.from_residual.ensures.0; keeps = Keeps-refl _ }
 
-pub returns-in_err-columns-clause-keeps : goal.returns-in_err-columns-clause-keeps
-returns-in_err-columns-clause-keeps g c = Keeps-refl _
+pub returns-in-Ok-clause-leaves : goal.returns-in-Ok-clause-leaves
+returns-in-Ok-clause-leaves g c = record { usable = c.in-Ok.ensures.leaves.usable; keeps = c.replace.ensures.leaves.keeps }
 
-pub returns-in-Ok-clause-usable : goal.returns-in-Ok-clause-usable
-returns-in-Ok-clause-usable g c = c.in-Ok.ensures.usable
-
-pub returns-in-Ok-clause-keeps : goal.returns-in-Ok-clause-keeps
-returns-in-Ok-clause-keeps g c = c.replace.ensures.keeps
-
-pub returns-clause-usable : goal.returns-clause-usable
-returns-clause-usable g c = tt
-
-pub returns-clause-keeps : goal.returns-clause-keeps
-returns-clause-keeps g c = c.replace.ensures.keeps
+pub returns-clause-leaves : goal.returns-clause-leaves
+returns-clause-leaves g c = record { usable = tt; keeps = c.replace.ensures.leaves.keeps }

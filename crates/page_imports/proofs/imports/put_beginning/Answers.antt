@@ -22,8 +22,8 @@ returns-clause-counted g c =
     let low : c.in-Some.call_count < 2 ^ 63 = search rules in
     subst (λ n. n < 2 ^ 63) (c.in-Some.ensures.some ∙ c.args.summed.now.summed.call_count) low
 
-pub returns-clause-keeps : goal.returns-clause-keeps
-returns-clause-keeps g c = Keeps-trans _ _ _ c.find_roots.ensures.reads.keeps c.put_head.ensures.keeps
+pub returns-clause-leaves : goal.returns-clause-leaves
+returns-clause-leaves g c = record { usable = c.in_ok-put_head.ensures.leaves.usable; keeps = Keeps-trans _ _ _ c.find_roots.ensures.reads.keeps c.put_head.ensures.leaves.keeps }
 
 pub returns-clause-done : goal.returns-clause-done
 returns-clause-done g c clean = λ wanted known db t rests holds new.
@@ -37,7 +37,7 @@ returns-clause-done g c clean = λ wanted known db t rests holds new.
     let run : RunRow = record { number = n; kind = c.number_of_kind.result; digest = c.args.digest; label = c.args.label; call_count = c.in-Some.call_count } in
     let is = filed_same n _ _ _ _ c.args.digest.now c.args.label.now _ _ _ _ _ _ content c.number_of_kind.ensures (c.in-Some.ensures.some ∙ summed.summed.call_count)
     (c.in_ok-lines.ensures.events content summed.summed) c.in_ok-lines.ensures.derived c.in_ok-lines.ensures.coefs in
-    let after = c.put_head.ensures.keeps.stays.clean clean in
+    let after = c.put_head.ensures.leaves.keeps.stays.clean clean in
     let are = c.in_ok-roots.ensures.found after db known (store_resting file db known wanted rests holds.contain.sound) in
     let writes = begins read (rests_after file read c.find_roots.ensures.reads after c.in_ok-roots.ensures.usable rests) in
     head_then run c.in_ok-lines.lines f is (head_of_run n head content) file read c.put_head.new.file c.in_ok-roots.roots (Ok (tt {0})) c.find_roots.ensures.reads.keeps
@@ -57,7 +57,7 @@ returns-in_err-put_head-clause-done g c =
     let is = filed_same n _ _ _ _ c.args.digest.now c.args.label.now _ _ _ _ _ _ content c.number_of_kind.ensures (c.in-Some.ensures.some ∙ summed.summed.call_count)
     (c.in_ok-lines.ensures.events content summed.summed) c.in_ok-lines.ensures.derived c.in_ok-lines.ensures.coefs in
     begins_not file last f (CanImport n c.args.kind c.args.digest.now c.args.label.now summed) c.from_residual-in_err-put_head.result _ c.from_residual-in_err-put_head.ensures.1 (λ clean wanted known db t rests holds new.
-    let after = c.put_head.ensures.keeps.stays.clean clean in
+    let after = c.put_head.ensures.leaves.keeps.stays.clean clean in
     let are = c.in_ok-roots.ensures.found after db known (store_resting file db known wanted rests holds.contain.sound) in
     let writes = begins read (rests_after file read c.find_roots.ensures.reads after c.in_ok-roots.ensures.usable rests) in
     fails_for file last _ (λ (can : CanImport n c.args.kind c.args.digest.now c.args.label.now summed t db). can.lines.head)
@@ -102,8 +102,8 @@ returns-in_err-lines-clause-fits g c = IfOk-from_err c.from_residual-in_err-line
 pub returns-in_err-lines-clause-counted : goal.returns-in_err-lines-clause-counted
 returns-in_err-lines-clause-counted g c = IfOk-from_err c.from_residual-in_err-lines.result _ c.from_residual-in_err-lines.ensures.0
 
-pub returns-in_err-lines-clause-usable : goal.returns-in_err-lines-clause-usable
-returns-in_err-lines-clause-usable g c = IfOk-from_err c.from_residual-in_err-lines.result _ c.from_residual-in_err-lines.ensures.0
+pub returns-in_err-lines-clause-leaves : goal.returns-in_err-lines-clause-leaves
+returns-in_err-lines-clause-leaves g c = record { usable = IfOk-from_err c.from_residual-in_err-lines.result _ c.from_residual-in_err-lines.ensures.0; keeps = c.find_roots.ensures.reads.keeps }
 
 pub returns-in_err-roots-clause-complete : goal.returns-in_err-roots-clause-complete
 returns-in_err-roots-clause-complete g c = IfOk-from_err c.from_residual.result _ c.from_residual.ensures.0
@@ -114,8 +114,8 @@ returns-in_err-roots-clause-fits g c = IfOk-from_err c.from_residual.result _ c.
 pub returns-in_err-roots-clause-counted : goal.returns-in_err-roots-clause-counted
 returns-in_err-roots-clause-counted g c = IfOk-from_err c.from_residual.result _ c.from_residual.ensures.0
 
-pub returns-in_err-roots-clause-usable : goal.returns-in_err-roots-clause-usable
-returns-in_err-roots-clause-usable g c = IfOk-from_err c.from_residual.result _ c.from_residual.ensures.0
+pub returns-in_err-roots-clause-leaves : goal.returns-in_err-roots-clause-leaves
+returns-in_err-roots-clause-leaves g c = record { usable = IfOk-from_err c.from_residual.result _ c.from_residual.ensures.0; keeps = c.find_roots.ensures.reads.keeps }
 
 pub returns-in_default-clause-complete : goal.returns-in_default-clause-complete
 returns-in_default-clause-complete g c = tt
@@ -126,23 +126,11 @@ returns-in_default-clause-fits g c = tt
 pub returns-in_default-clause-counted : goal.returns-in_default-clause-counted
 returns-in_default-clause-counted g c = tt
 
-pub returns-in_default-clause-usable : goal.returns-in_default-clause-usable
-returns-in_default-clause-usable g c = tt
-
-pub returns-in_err-lines-clause-keeps : goal.returns-in_err-lines-clause-keeps
-returns-in_err-lines-clause-keeps g c = c.find_roots.ensures.reads.keeps
-
-pub returns-in_default-clause-keeps : goal.returns-in_default-clause-keeps
-returns-in_default-clause-keeps g c = c.find_roots.ensures.reads.keeps
-
-pub returns-in_err-roots-clause-keeps : goal.returns-in_err-roots-clause-keeps
-returns-in_err-roots-clause-keeps g c = c.find_roots.ensures.reads.keeps
+pub returns-in_default-clause-leaves : goal.returns-in_default-clause-leaves
+returns-in_default-clause-leaves g c = record { usable = tt; keeps = c.find_roots.ensures.reads.keeps }
 
 pub returns-clause-complete : goal.returns-clause-complete
 returns-clause-complete g c = c.in_ok-lines.ensures.column_int
-
-pub returns-clause-usable : goal.returns-clause-usable
-returns-clause-usable g c = c.in_ok-put_head.ensures.usable
 
 pub returns-in_err-put_head-clause-complete : goal.returns-in_err-put_head-clause-complete
 returns-in_err-put_head-clause-complete g c = IfOk-from_err c.from_residual-in_err-put_head.result _ c.from_residual-in_err-put_head.ensures.0
@@ -153,8 +141,5 @@ returns-in_err-put_head-clause-fits g c = IfOk-from_err c.from_residual-in_err-p
 pub returns-in_err-put_head-clause-counted : goal.returns-in_err-put_head-clause-counted
 returns-in_err-put_head-clause-counted g c = IfOk-from_err c.from_residual-in_err-put_head.result _ c.from_residual-in_err-put_head.ensures.0
 
-pub returns-in_err-put_head-clause-usable : goal.returns-in_err-put_head-clause-usable
-returns-in_err-put_head-clause-usable g c = IfOk-from_err c.from_residual-in_err-put_head.result _ c.from_residual-in_err-put_head.ensures.0
-
-pub returns-in_err-put_head-clause-keeps : goal.returns-in_err-put_head-clause-keeps
-returns-in_err-put_head-clause-keeps g c = Keeps-trans _ _ _ c.find_roots.ensures.reads.keeps c.put_head.ensures.keeps
+pub returns-in_err-put_head-clause-leaves : goal.returns-in_err-put_head-clause-leaves
+returns-in_err-put_head-clause-leaves g c = record { usable = IfOk-from_err c.from_residual-in_err-put_head.result _ c.from_residual-in_err-put_head.ensures.0; keeps = Keeps-trans _ _ _ c.find_roots.ensures.reads.keeps c.put_head.ensures.leaves.keeps }

@@ -36,8 +36,8 @@ returns-clause-done g c clean = λ wanted known db t rests holds listed.
     let summed = c.args.summed.now in
     let f = filed c.args.number c.args.kind c.args.digest.now c.args.label.now summed.head.now (content_of summed.rows.now) in
     let new = c.if-not-is_next.ensures.told t listed refl in
-    let begun = c.in_ok-roots.ensures.done (c.put_rows.ensures.keeps.stays.clean clean) wanted known db t rests holds new in
-    when_ok c.put_rows.result _ _ (rows_then old mid last f c.in_ok-roots.roots c.put_rows.result c.put_beginning.ensures.keeps c.put_rows.ensures.done clean wanted known db t holds new begun)
+    let begun = c.in_ok-roots.ensures.done (c.put_rows.ensures.leaves.keeps.stays.clean clean) wanted known db t rests holds new in
+    when_ok c.put_rows.result _ _ (rows_then old mid last f c.in_ok-roots.roots c.put_rows.result c.put_beginning.ensures.leaves.keeps c.put_rows.ensures.done clean wanted known db t holds new begun)
 
 pub returns-clause-failed : goal.returns-clause-failed
 returns-clause-failed g c =
@@ -48,9 +48,9 @@ returns-clause-failed g c =
     let summed = c.args.summed.now in
     let f = filed c.args.number c.args.kind c.args.digest.now c.args.label.now summed.head.now (content_of summed.rows.now) in
     let new = c.if-not-is_next.ensures.told t listed refl in
-    let begun = c.in_ok-roots.ensures.done (c.put_rows.ensures.keeps.stays.clean clean) wanted known db t rests holds new in
+    let begun = c.in_ok-roots.ensures.done (c.put_rows.ensures.leaves.keeps.stays.clean clean) wanted known db t rests holds new in
     fails_for old last e (λ (can : CanImport c.args.number c.args.kind c.args.digest.now c.args.label.now summed t db). can.lines)
-    (at_err c.put_rows.result _ _ e is (rows_then old mid last f c.in_ok-roots.roots c.put_rows.result c.put_beginning.ensures.keeps c.put_rows.ensures.done clean wanted known db t holds new begun)))
+    (at_err c.put_rows.result _ _ e is (rows_then old mid last f c.in_ok-roots.roots c.put_rows.result c.put_beginning.ensures.leaves.keeps c.put_rows.ensures.done clean wanted known db t holds new begun)))
 
 pub returns-clause-is_new : goal.returns-clause-is_new
 returns-clause-is_new g c = λ t listed. on_any c.put_rows.result (c.if-not-is_next.ensures.told t listed refl)
@@ -64,11 +64,8 @@ returns-clause-fits g c = on_any c.put_rows.result c.in_ok-roots.ensures.fits
 pub returns-clause-counted : goal.returns-clause-counted
 returns-clause-counted g c = on_any c.put_rows.result c.in_ok-roots.ensures.counted
 
-pub returns-clause-usable : goal.returns-clause-usable
-returns-clause-usable g c = c.put_rows.ensures.usable
-
-pub returns-clause-keeps : goal.returns-clause-keeps
-returns-clause-keeps g c = Keeps-trans _ _ _ c.put_beginning.ensures.keeps c.put_rows.ensures.keeps
+pub returns-clause-leaves : goal.returns-clause-leaves
+returns-clause-leaves g c = record { usable = c.put_rows.ensures.leaves.usable; keeps = Keeps-trans _ _ _ c.put_beginning.ensures.leaves.keeps c.put_rows.ensures.leaves.keeps }
 
 pub returns-in_err-roots-clause-done : goal.returns-in_err-roots-clause-done
 returns-in_err-roots-clause-done g c clean = λ wanted known db t rests holds listed. IfOk-from_err c.from_residual.result _ c.from_residual.ensures.0
@@ -85,11 +82,8 @@ returns-in_err-roots-clause-fits g c = IfOk-from_err c.from_residual.result _ c.
 pub returns-in_err-roots-clause-counted : goal.returns-in_err-roots-clause-counted
 returns-in_err-roots-clause-counted g c = IfOk-from_err c.from_residual.result _ c.from_residual.ensures.0
 
-pub returns-in_err-roots-clause-usable : goal.returns-in_err-roots-clause-usable
-returns-in_err-roots-clause-usable g c = IfOk-from_err c.from_residual.result _ c.from_residual.ensures.0
-
-pub returns-in_err-roots-clause-keeps : goal.returns-in_err-roots-clause-keeps
-returns-in_err-roots-clause-keeps g c = c.put_beginning.ensures.keeps
+pub returns-in_err-roots-clause-leaves : goal.returns-in_err-roots-clause-leaves
+returns-in_err-roots-clause-leaves g c = record { usable = IfOk-from_err c.from_residual.result _ c.from_residual.ensures.0; keeps = c.put_beginning.ensures.leaves.keeps }
 
 pub returns-then-is_reached-clause-done : goal.returns-then-is_reached-clause-done
 returns-then-is_reached-clause-done g c = λ clean wanted known db t rests holds listed. tt
@@ -106,8 +100,5 @@ returns-then-is_reached-clause-fits g c = tt
 pub returns-then-is_reached-clause-counted : goal.returns-then-is_reached-clause-counted
 returns-then-is_reached-clause-counted g c = tt
 
-pub returns-then-is_reached-clause-usable : goal.returns-then-is_reached-clause-usable
-returns-then-is_reached-clause-usable g c = tt
-
-pub returns-then-is_reached-clause-keeps : goal.returns-then-is_reached-clause-keeps
-returns-then-is_reached-clause-keeps g c = Keeps-refl _
+pub returns-then-is_reached-clause-leaves : goal.returns-then-is_reached-clause-leaves
+returns-then-is_reached-clause-leaves g c = record { usable = tt; keeps = Keeps-refl _ }

@@ -11,7 +11,7 @@ use Rattle.page_imports.proofs.names.number_names.Goals as goal
 
 pub returns-clause-done : goal.returns-clause-done
 returns-clause-done g c clean = λ wanted known was t shows are.
-    let early = c.put_names.ensures.keeps.stays.clean clean in
+    let early = c.put_names.ensures.leaves.keeps.stays.clean clean in
     let told = c.in_ok-found.ensures.told early wanted known was t shows are in
     let there = shows_after c.args.file.now c.find_numbers.new.file c.find_numbers.ensures.reads early c.in_ok-found.ensures.usable shows in
     let listed = c.deref.ensures.value in
@@ -30,7 +30,7 @@ returns-in_err-found-clause-done g c clean = λ wanted known was t shows are.
 
 pub returns-in_err-put_names-clause-done : goal.returns-in_err-put_names-clause-done
 returns-in_err-put_names-clause-done g c clean = λ wanted known was t shows are.
-    let early = c.put_names.ensures.keeps.stays.clean clean in
+    let early = c.put_names.ensures.leaves.keeps.stays.clean clean in
     let told = c.in_ok-found.ensures.told early wanted known was t shows are in
     let there = shows_after c.args.file.now c.find_numbers.new.file c.find_numbers.ensures.reads early c.in_ok-found.ensures.usable shows in
     let listed = c.deref.ensures.value in
@@ -40,20 +40,11 @@ returns-in_err-put_names-clause-done g c clean = λ wanted known was t shows are
     rw (p.1, p.2) (store_fails_later c.args.file.now c.find_numbers.new.file c.put_names.new.file _ c.find_numbers.ensures.reads.keeps
     (λ (can : CanBeNumbered c.args.names.now t shows.next). can.put _ (told.named ∙ ap (λ l. with_names l t) (sym news))) failed)
 
-pub returns-in_err-put_names-clause-keeps : goal.returns-in_err-put_names-clause-keeps
-returns-in_err-put_names-clause-keeps g c = Keeps-trans _ _ _ c.find_numbers.ensures.reads.keeps c.put_names.ensures.keeps
+pub returns-in_err-put_names-clause-leaves : goal.returns-in_err-put_names-clause-leaves
+returns-in_err-put_names-clause-leaves g c = record { usable = IfOk-from_err c.from_residual-in_err-put_names.result _ c.from_residual-in_err-put_names.ensures.0; keeps = Keeps-trans _ _ _ c.find_numbers.ensures.reads.keeps c.put_names.ensures.leaves.keeps }
 
-pub returns-clause-keeps : goal.returns-clause-keeps
-returns-clause-keeps g c = Keeps-trans _ _ _ c.find_numbers.ensures.reads.keeps c.put_names.ensures.keeps
+pub returns-clause-leaves : goal.returns-clause-leaves
+returns-clause-leaves g c = record { usable = c.in_ok-put_names.ensures.leaves.usable; keeps = Keeps-trans _ _ _ c.find_numbers.ensures.reads.keeps c.put_names.ensures.leaves.keeps }
 
-pub returns-in_err-found-clause-usable : goal.returns-in_err-found-clause-usable
-returns-in_err-found-clause-usable g c = IfOk-from_err c.from_residual.result _ c.from_residual.ensures.0
-
-pub returns-in_err-put_names-clause-usable : goal.returns-in_err-put_names-clause-usable
-returns-in_err-put_names-clause-usable g c = IfOk-from_err c.from_residual-in_err-put_names.result _ c.from_residual-in_err-put_names.ensures.0
-
-pub returns-in_err-found-clause-keeps : goal.returns-in_err-found-clause-keeps
-returns-in_err-found-clause-keeps g c = c.find_numbers.ensures.reads.keeps
-
-pub returns-clause-usable : goal.returns-clause-usable
-returns-clause-usable g c = c.in_ok-put_names.ensures.usable
+pub returns-in_err-found-clause-leaves : goal.returns-in_err-found-clause-leaves
+returns-in_err-found-clause-leaves g c = record { usable = IfOk-from_err c.from_residual.result _ c.from_residual.ensures.0; keeps = c.find_numbers.ensures.reads.keeps }

@@ -43,14 +43,8 @@ returns-in_err-lines-clause-done g c clean = λ wanted known was t shows are can
     let p = err_from_is_err_and c.from_residual.result c.from_residual.ensures.1 in
     rw (p.1, p.2) (refuses_fails file file _ (λ (can : CanPutCells run c.args.numbers.now (content_of c.args.rows.now).cells shows.next). can.fit) c.in_err-lines.ensures.refused)
 
-pub returns-in_err-lines-clause-usable : goal.returns-in_err-lines-clause-usable
-returns-in_err-lines-clause-usable g c = IfOk-from_err c.from_residual.result _ c.from_residual.ensures.0
+pub returns-in_err-lines-clause-leaves : goal.returns-in_err-lines-clause-leaves
+returns-in_err-lines-clause-leaves g c = record { usable = IfOk-from_err c.from_residual.result _ c.from_residual.ensures.0; keeps = Keeps-refl _ }
 
-pub returns-in_err-lines-clause-keeps : goal.returns-in_err-lines-clause-keeps
-returns-in_err-lines-clause-keeps g c = Keeps-refl _
-
-pub returns-clause-usable : goal.returns-clause-usable
-returns-clause-usable g c = c.fill.ensures.usable
-
-pub returns-clause-keeps : goal.returns-clause-keeps
-returns-clause-keeps g c = c.fill.ensures.keeps
+pub returns-clause-leaves : goal.returns-clause-leaves
+returns-clause-leaves g c = c.fill.ensures.leaves

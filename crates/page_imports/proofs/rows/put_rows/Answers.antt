@@ -44,7 +44,7 @@ returns-in_err-numbers-clause-done g c clean = λ wanted known was t shows are c
 pub returns-in_err-put_cells-clause-done : goal.returns-in_err-put_cells-clause-done
 returns-in_err-put_cells-clause-done g c clean = λ wanted known was t shows are can.
     let after_1 = clean in
-    let after_0 = c.put_cells.ensures.keeps.stays.clean after_1 in
+    let after_0 = c.put_cells.ensures.leaves.keeps.stays.clean after_1 in
     let file = c.args.file.now in
     let run = c.args.run in
     let content = content_of c.args.rows.now in
@@ -61,14 +61,14 @@ returns-in_err-put_cells-clause-done g c clean = λ wanted known was t shows are
     let numbers = c.deref.ensures.value ∙ one.1 ∙ ap (λ (l : List (List ℕ)). numbers_in (all_named l t) l) c.names.ensures in
     let same = one.0.kept thread_cell_at (has_got schema_two.tables 10 thread_cell_at refl) refl in
     let p = err_from_is_err_and c.from_residual-in_err-put_cells.result c.from_residual-in_err-put_cells.ensures.1 in
-    rw (p.1, p.2) (store_fails_later file c.number_names.new.file c.put_cells.new.file _ c.number_names.ensures.keeps
+    rw (p.1, p.2) (store_fails_later file c.number_names.new.file c.put_cells.new.file _ c.number_names.ensures.leaves.keeps
     (λ (fits : CanPutRows run content t shows.next). cells_still run content t c.deref.result.now numbers fits same) two)
 
 pub returns-in_err-put_calls-clause-done : goal.returns-in_err-put_calls-clause-done
 returns-in_err-put_calls-clause-done g c clean = λ wanted known was t shows are can.
     let after_2 = clean in
-    let after_1 = c.put_calls.ensures.keeps.stays.clean after_2 in
-    let after_0 = c.put_cells.ensures.keeps.stays.clean after_1 in
+    let after_1 = c.put_calls.ensures.leaves.keeps.stays.clean after_2 in
+    let after_0 = c.put_cells.ensures.leaves.keeps.stays.clean after_1 in
     let file = c.args.file.now in
     let run = c.args.run in
     let content = content_of c.args.rows.now in
@@ -87,7 +87,7 @@ returns-in_err-put_calls-clause-done g c clean = λ wanted known was t shows are
     let numbers = c.deref-2.ensures.value ∙ one.1 ∙ ap (λ (l : List (List ℕ)). numbers_in (all_named l t) l) c.names.ensures in
     let same = two.kept arc_at (has_got schema_two.tables 6 arc_at refl) refl ∙ one.0.kept arc_at (has_got schema_two.tables 6 arc_at refl) refl in
     let p = err_from_is_err_and c.from_residual-in_err-put_calls.result c.from_residual-in_err-put_calls.ensures.1 in
-    rw (p.1, p.2) (store_fails_later file c.put_cells.new.file c.put_calls.new.file _ (Keeps-trans _ _ _ c.number_names.ensures.keeps c.put_cells.ensures.keeps)
+    rw (p.1, p.2) (store_fails_later file c.put_cells.new.file c.put_calls.new.file _ (Keeps-trans _ _ _ c.number_names.ensures.leaves.keeps c.put_cells.ensures.leaves.keeps)
     (λ (fits : CanPutRows run content t shows.next). calls_still run content t c.deref-2.result.now numbers fits same) three)
 
 -- the names were numbered, and then the rows put in under these numbers
@@ -130,42 +130,30 @@ returns-clause-done g c clean = λ wanted known was t shows are can.
       calls = record { held = can.calls.held; none = can.calls.none };
       stacks = record { held = can.stacks.held; none = can.stacks.none };
     }) in
-    let after_2 = c.put_stacks.ensures.keeps.stays.clean clean in
-    let after_1 = c.put_calls.ensures.keeps.stays.clean after_2 in
-    let after_0 = c.put_cells.ensures.keeps.stays.clean after_1 in
+    let after_2 = c.put_stacks.ensures.leaves.keeps.stays.clean clean in
+    let after_1 = c.put_calls.ensures.leaves.keeps.stays.clean after_2 in
+    let after_0 = c.put_cells.ensures.leaves.keeps.stays.clean after_1 in
     let two = made_then numbered c.put_cells.new.file c.put_calls.new.file roots (thread_cell_at ∷ []) (arc_at ∷ []) (HasNoCell run) (HasNoCall run) (HasNoRow run)
-    (with_cells (cell_rows run ns content.cells)) (with_calls (call_rows run ms content.calls)) c.put_calls.ensures.keeps.stays.clean
+    (with_cells (cell_rows run ns content.cells)) (with_calls (call_rows run ms content.calls)) c.put_calls.ensures.leaves.keeps.stays.clean
     (λ t now holds none. (none.cells, record { held = none.calls.held; none = none.calls.none })) c.in_ok-put_cells.ensures.done c.in_ok-put_calls.ensures.done in
     let rest = makes_then numbered c.put_calls.new.file last roots (thread_cell_at ∷ arc_at ∷ []) (stack_at ∷ []) (HasNoRow run) (HasNoStack run) (HasNoRow run)
-    (λ t. with_calls (call_rows run ms content.calls) (with_cells (cell_rows run ns content.cells) t)) (with_stacks (stack_rows run content.stacks)) c.put_stacks.ensures.keeps.stays.clean
+    (λ t. with_calls (call_rows run ms content.calls) (with_cells (cell_rows run ns content.cells) t)) (with_stacks (stack_rows run content.stacks)) c.put_stacks.ensures.leaves.keeps.stays.clean
     (λ t now holds none. (none, record { held = none.stacks.held; none = none.stacks.none })) two (λ _. CanPutStacks run content.stacks) (λ _. CanPutStacks run content.stacks) c.put_stacks.result
-    (Keeps-trans _ _ _ c.put_cells.ensures.keeps c.put_calls.ensures.keeps)
+    (Keeps-trans _ _ _ c.put_cells.ensures.leaves.keeps c.put_calls.ensures.leaves.keeps)
     (λ t now next fits kept. record { fit = fits.fit; put = put_still stack_at (map stack_columns (stack_rows run content.stacks)) now next (kept stack_at (has_got schema_two.tables 7 stack_at refl) refl) fits.put })
     c.put_stacks.ensures.done in
     let one = c.in_ok-numbers.ensures.done after_0 wanted known was t shows are in
-    numbered_then run content names t ns ms (c.deref.ensures.value ∙ one.1) (c.deref-2.ensures.value ∙ one.1) c.names.ensures file numbered last wanted known was shows.next c.put_stacks.result c.number_names.ensures.keeps one.0
+    numbered_then run content names t ns ms (c.deref.ensures.value ∙ one.1) (c.deref-2.ensures.value ∙ one.1) c.names.ensures file numbered last wanted known was shows.next c.put_stacks.result c.number_names.ensures.leaves.keeps one.0
     (rest clean wanted known was named one.0.shows are needs)
 
-pub returns-in_err-put_cells-clause-keeps : goal.returns-in_err-put_cells-clause-keeps
-returns-in_err-put_cells-clause-keeps g c = Keeps-trans _ _ _ c.number_names.ensures.keeps c.put_cells.ensures.keeps
+pub returns-in_err-put_cells-clause-leaves : goal.returns-in_err-put_cells-clause-leaves
+returns-in_err-put_cells-clause-leaves g c = record { usable = IfOk-from_err c.from_residual-in_err-put_cells.result _ c.from_residual-in_err-put_cells.ensures.0; keeps = Keeps-trans _ _ _ c.number_names.ensures.leaves.keeps c.put_cells.ensures.leaves.keeps }
 
-pub returns-in_err-put_calls-clause-keeps : goal.returns-in_err-put_calls-clause-keeps
-returns-in_err-put_calls-clause-keeps g c = Keeps-trans _ _ _ (Keeps-trans _ _ _ c.number_names.ensures.keeps c.put_cells.ensures.keeps) c.put_calls.ensures.keeps
+pub returns-in_err-put_calls-clause-leaves : goal.returns-in_err-put_calls-clause-leaves
+returns-in_err-put_calls-clause-leaves g c = record { usable = IfOk-from_err c.from_residual-in_err-put_calls.result _ c.from_residual-in_err-put_calls.ensures.0; keeps = Keeps-trans _ _ _ (Keeps-trans _ _ _ c.number_names.ensures.leaves.keeps c.put_cells.ensures.leaves.keeps) c.put_calls.ensures.leaves.keeps }
 
-pub returns-clause-keeps : goal.returns-clause-keeps
-returns-clause-keeps g c = Keeps-trans _ _ _ (Keeps-trans _ _ _ (Keeps-trans _ _ _ c.number_names.ensures.keeps c.put_cells.ensures.keeps) c.put_calls.ensures.keeps) c.put_stacks.ensures.keeps
+pub returns-clause-leaves : goal.returns-clause-leaves
+returns-clause-leaves g c = record { usable = c.put_stacks.ensures.leaves.usable; keeps = Keeps-trans _ _ _ (Keeps-trans _ _ _ (Keeps-trans _ _ _ c.number_names.ensures.leaves.keeps c.put_cells.ensures.leaves.keeps) c.put_calls.ensures.leaves.keeps) c.put_stacks.ensures.leaves.keeps }
 
-pub returns-in_err-numbers-clause-usable : goal.returns-in_err-numbers-clause-usable
-returns-in_err-numbers-clause-usable g c = IfOk-from_err c.from_residual.result _ c.from_residual.ensures.0
-
-pub returns-in_err-put_cells-clause-usable : goal.returns-in_err-put_cells-clause-usable
-returns-in_err-put_cells-clause-usable g c = IfOk-from_err c.from_residual-in_err-put_cells.result _ c.from_residual-in_err-put_cells.ensures.0
-
-pub returns-in_err-put_calls-clause-usable : goal.returns-in_err-put_calls-clause-usable
-returns-in_err-put_calls-clause-usable g c = IfOk-from_err c.from_residual-in_err-put_calls.result _ c.from_residual-in_err-put_calls.ensures.0
-
-pub returns-in_err-numbers-clause-keeps : goal.returns-in_err-numbers-clause-keeps
-returns-in_err-numbers-clause-keeps g c = c.number_names.ensures.keeps
-
-pub returns-clause-usable : goal.returns-clause-usable
-returns-clause-usable g c = c.put_stacks.ensures.usable
+pub returns-in_err-numbers-clause-leaves : goal.returns-in_err-numbers-clause-leaves
+returns-in_err-numbers-clause-leaves g c = record { usable = IfOk-from_err c.from_residual.result _ c.from_residual.ensures.0; keeps = c.number_names.ensures.leaves.keeps }

@@ -31,14 +31,14 @@ returns-in_err-write_record-clause-done g c faithful = λ wanted roots was now i
     (not_storable wanted roots was now c.args.indexes.now indexes insert_entry row c.loop-index.index-index c.loop-index.file part _ c.loop-index-test.true entry c.in_ok-make_entry.ensures) c.in_err-write_record.ensures.cause)
 
 pub returns-in_err-insert-clause-keeps : goal.returns-in_err-insert-clause-keeps
-returns-in_err-insert-clause-keeps g c = Keeps-trans _ _ _ c.loop-index.invariant.keeps c.insert.ensures.keeps
+returns-in_err-insert-clause-keeps g c = Keeps-trans _ _ _ c.loop-index.invariant.keeps c.insert.ensures.leaves.keeps
 
 pub returns-in_err-insert-clause-done : goal.returns-in_err-insert-clause-done
 returns-in_err-insert-clause-done g c faithful = λ wanted roots was now indexes w all.
     let row = c.args.row.now in
     let file = c.loop-index.file in
     let new = c.insert.new.self in
-    let part = c.loop-index.invariant.part (c.insert.ensures.keeps.stays.clean faithful) wanted roots was now indexes w all in
+    let part = c.loop-index.invariant.part (c.insert.ensures.leaves.keeps.stays.clean faithful) wanted roots was now indexes w all in
     let n = next_index wanted roots was now c.args.indexes.now indexes insert_entry row c.loop-index.index-index file part _ c.loop-index-test.true in
     let p = err_from_is_err_and c.from_residual-in_err-insert.result c.from_residual-in_err-insert.ensures.1 in
     rw (p.1, p.2) (fails_later c.args.file.now file new _ c.loop-index.invariant.keeps
@@ -50,10 +50,10 @@ loop-index-preserved g c =
     let file = c.loop-index.file in
     let new = c.insert.new.self in
     record {
-      keeps = Keeps-trans _ _ _ c.loop-index.invariant.keeps c.insert.ensures.keeps;
-      usable = λ ready. c.in_ok-insert.ensures.usable;
+      keeps = Keeps-trans _ _ _ c.loop-index.invariant.keeps c.insert.ensures.leaves.keeps;
+      usable = λ ready. c.in_ok-insert.ensures.leaves.usable;
       part = λ faithful wanted roots was now indexes w all.
-          let part = c.loop-index.invariant.part (c.insert.ensures.keeps.stays.clean faithful) wanted roots was now indexes w all in
+          let part = c.loop-index.invariant.part (c.insert.ensures.leaves.keeps.stays.clean faithful) wanted roots was now indexes w all in
           one_more wanted roots was now c.args.indexes.now indexes insert_entry row c.loop-index.index-index file part _ c.loop-index-test.true c.make_entry.new.entry new c.in_ok-make_entry.ensures
           (λ i place. c.in_ok-insert.ensures.done faithful wanted roots was (with_entries insert_entry row now part.done) i.tree part.writes place.at (subst (λ n. widen n c.make_entry.new.entry ≡ c.make_entry.new.entry) (sym place.no_reals) (widen-zero c.make_entry.new.entry)));
     }

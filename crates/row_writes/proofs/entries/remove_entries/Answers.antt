@@ -15,14 +15,14 @@ pub returns-in_err-make_entry-clause-keeps : goal.returns-in_err-make_entry-clau
 returns-in_err-make_entry-clause-keeps g c = c.loop-index.invariant.keeps
 
 pub returns-in_err-remove-clause-keeps : goal.returns-in_err-remove-clause-keeps
-returns-in_err-remove-clause-keeps g c = Keeps-trans _ _ _ c.loop-index.invariant.keeps c.remove.ensures.keeps
+returns-in_err-remove-clause-keeps g c = Keeps-trans _ _ _ c.loop-index.invariant.keeps c.remove.ensures.leaves.keeps
 
 pub returns-in_err-remove-clause-done : goal.returns-in_err-remove-clause-done
 returns-in_err-remove-clause-done g c faithful = λ wanted roots was now indexes w all.
     let row = c.args.row.now in
     let file = c.loop-index.file in
     let new = c.remove.new.self in
-    let part = c.loop-index.invariant.part (c.remove.ensures.keeps.stays.clean faithful) wanted roots was now indexes w all in
+    let part = c.loop-index.invariant.part (c.remove.ensures.leaves.keeps.stays.clean faithful) wanted roots was now indexes w all in
     let n = next_index wanted roots was now c.args.indexes.now indexes remove_entry row c.loop-index.index-index file part _ c.loop-index-test.true in
     let p = err_from_is_err_and c.from_residual-in_err-remove.result c.from_residual-in_err-remove.ensures.1 in
     rw (p.1, p.2) (fails_later c.args.file.now file new _ c.loop-index.invariant.keeps
@@ -34,10 +34,10 @@ loop-index-preserved g c =
     let file = c.loop-index.file in
     let new = c.remove.new.self in
     record {
-      keeps = Keeps-trans _ _ _ c.loop-index.invariant.keeps c.remove.ensures.keeps;
-      usable = λ ready. c.in_ok-remove.ensures.usable;
+      keeps = Keeps-trans _ _ _ c.loop-index.invariant.keeps c.remove.ensures.leaves.keeps;
+      usable = λ ready. c.in_ok-remove.ensures.leaves.usable;
       part = λ faithful wanted roots was now indexes w all.
-          let part = c.loop-index.invariant.part (c.remove.ensures.keeps.stays.clean faithful) wanted roots was now indexes w all in
+          let part = c.loop-index.invariant.part (c.remove.ensures.leaves.keeps.stays.clean faithful) wanted roots was now indexes w all in
           one_more wanted roots was now c.args.indexes.now indexes remove_entry row c.loop-index.index-index file part _ c.loop-index-test.true c.make_entry.new.entry new c.in_ok-make_entry.ensures
           (λ i place. c.in_ok-remove.ensures.done faithful wanted roots was (with_entries remove_entry row now part.done) i.tree part.writes place.at);
     }

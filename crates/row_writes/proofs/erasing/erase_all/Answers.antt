@@ -19,26 +19,26 @@ loop-rowid-init g c = record {
 }
 
 pub returns-in_err-erase-clause-keeps : goal.returns-in_err-erase-clause-keeps
-returns-in_err-erase-clause-keeps g c = Keeps-trans _ _ _ c.loop-rowid.invariant.keeps c.erase.ensures.keeps
+returns-in_err-erase-clause-keeps g c = Keeps-trans _ _ _ c.loop-rowid.invariant.keeps c.erase.ensures.leaves.keeps
 
 pub returns-in_err-erase-clause-done : goal.returns-in_err-erase-clause-done
 returns-in_err-erase-clause-done g c faithful = λ schema wanted roots was now table shows any.
     let old = c.args.file.now in
     let mid = c.loop-rowid.file in
-    let h = c.loop-rowid.invariant.rows (c.erase.ensures.keeps.stays.clean faithful) schema wanted roots was now table shows in
+    let h = c.loop-rowid.invariant.rows (c.erase.ensures.leaves.keeps.stays.clean faithful) schema wanted roots was now table shows in
     let p = err_from_is_err_and c.from_residual.result c.from_residual.ensures.1 in
     rw (p.1, p.2) (changes_later old mid c.erase.new.file ⊤ ⊤ _ c.loop-rowid.invariant.keeps (λ x. x)
     (c.in_err-erase.ensures.done faithful schema wanted roots was h.next table (shows_next old mid shows h) any))
 
 pub loop-rowid-preserved : goal.loop-rowid-preserved
 loop-rowid-preserved g c = record {
-  keeps = Keeps-trans _ _ _ c.loop-rowid.invariant.keeps c.erase.ensures.keeps;
-  usable = λ ready. c.in_ok-erase.ensures.usable;
+  keeps = Keeps-trans _ _ _ c.loop-rowid.invariant.keeps c.erase.ensures.leaves.keeps;
+  usable = λ ready. c.in_ok-erase.ensures.leaves.usable;
   rows = λ faithful schema wanted roots was now table shows.
       let mid = c.loop-rowid.file in
       let ids = c.args.rowids.now in
       let k = c.loop-rowid.rowid-index in
-      let h = c.loop-rowid.invariant.rows (c.erase.ensures.keeps.stays.clean faithful) schema wanted roots was now table shows in
+      let h = c.loop-rowid.invariant.rows (c.erase.ensures.leaves.keeps.stays.clean faithful) schema wanted roots was now table shows in
       let id = get_or ids k (pos 0) in
       let same : to_z w64 (of_z w64 id) ≡ id = search (rules, to_z-of_z) in
       one_erased ids k (pos 0) mid c.erase.new.file c.loop-rowid-test.true h

@@ -15,8 +15,8 @@ returns-in_err-rowids-clause-done g c faithful = λ schema wanted roots was now 
     let p = err_from_is_err_and c.from_residual.result c.from_residual.ensures.1 in
     rw (p.1, p.2) (c.in_err-rowids.ensures.done faithful schema wanted roots was now table shows)
 
-pub returns-clause-keeps : goal.returns-clause-keeps
-returns-clause-keeps g c = Keeps-trans _ _ _ c.rowids_where.ensures.reads.keeps c.erase_all.ensures.keeps
+pub returns-clause-leaves : goal.returns-clause-leaves
+returns-clause-leaves g c = record { usable = c.erase_all.ensures.usable c.in_ok-rowids.ensures.usable; keeps = Keeps-trans _ _ _ c.rowids_where.ensures.reads.keeps c.erase_all.ensures.keeps }
 
 pub returns-clause-done : goal.returns-clause-done
 returns-clause-done g c faithful = λ schema wanted roots was now table shows any.

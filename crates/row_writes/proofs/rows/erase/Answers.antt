@@ -42,16 +42,16 @@ pub returns-in_err-delete-clause-done : goal.returns-in_err-delete-clause-done
 returns-in_err-delete-clause-done g c faithful = λ schema wanted roots was now table shows any.
     let old = c.args.file.now in
     let mid = c.find_row.new.self in
-    let before = c.delete.ensures.keeps.stays.clean faithful in
+    let before = c.delete.ensures.leaves.keeps.stays.clean faithful in
     let w = writes_after old mid c.find_row.ensures.reads before c.in_ok-find_row.ensures.usable shows.writes in
     let p = err_from_is_err_and c.from_residual-in_err-delete.result c.from_residual-in_err-delete.ensures.1 in
     rw (p.1, p.2) (fails_later old mid c.delete.new.self _ c.find_row.ensures.reads.keeps (c.in_err-delete.ensures.done faithful wanted roots was now table.tree w shows.placed.at))
 
-pub returns-in_err-delete-clause-keeps : goal.returns-in_err-delete-clause-keeps
-returns-in_err-delete-clause-keeps g c = Keeps-trans _ _ _ c.find_row.ensures.reads.keeps c.delete.ensures.keeps
+pub returns-in_err-delete-clause-leaves : goal.returns-in_err-delete-clause-leaves
+returns-in_err-delete-clause-leaves g c = record { usable = IfOk-from_err c.from_residual-in_err-delete.result _ c.from_residual-in_err-delete.ensures.0; keeps = Keeps-trans _ _ _ c.find_row.ensures.reads.keeps c.delete.ensures.leaves.keeps }
 
-pub returns-clause-keeps : goal.returns-clause-keeps
-returns-clause-keeps g c = Keeps-trans _ _ _ (Keeps-trans _ _ _ c.find_row.ensures.reads.keeps c.delete.ensures.keeps) c.remove_entries.ensures.keeps
+pub returns-clause-leaves : goal.returns-clause-leaves
+returns-clause-leaves g c = record { usable = c.remove_entries.ensures.usable c.in_ok-delete.ensures.leaves.usable; keeps = Keeps-trans _ _ _ (Keeps-trans _ _ _ c.find_row.ensures.reads.keeps c.delete.ensures.leaves.keeps) c.remove_entries.ensures.keeps }
 
 pub returns-clause-done : goal.returns-clause-done
 returns-clause-done g c faithful = λ schema wanted roots was now table shows any.
@@ -66,7 +66,7 @@ returns-clause-done g c faithful = λ schema wanted roots was now table shows an
     let same : id ≡ c.args.rowid = to_z-of_z c.ranges.rowid in
     let t = table_shows old shows in
     let clean = c.remove_entries.ensures.keeps.stays.clean faithful in
-    let before = c.delete.ensures.keeps.stays.clean clean in
+    let before = c.delete.ensures.leaves.keeps.stays.clean clean in
     let found = subst (λ rows. Finds rows id (table_row (id, payload)) true) t.1 (subst (Finds (trees_of wanted old table.tree) id (table_row (id, payload))) c.if-not-branch.false (c.in_ok-find_row.ensures.done before wanted table.tree t.0)) in
     let row : Row = Int c.args.rowid ∷ decode payload in
     let is : c.read_row.new.row ≡ row = c.in_ok-read_row.ensures ∙ ap (λ (b : List ℕ). table_row (id, b)) c.as_slice.ensures.value ∙ ap (λ (n : ℤ). Int n ∷ decode payload) same in
@@ -77,29 +77,14 @@ returns-clause-done g c faithful = λ schema wanted roots was now table shows an
     (λ v. erased c.args.place.now schema wanted roots was now table old new shows c.args.rowid (decode payload)
     (subst (λ n. Finds (now table.tree) n (table_row (n, payload)) true) same found)
     (subst (λ (r : Row). Writes wanted roots was (with_entries remove_entry r trees indexes) new) is v))
-    (λ e. changes_later old gone new ⊤ ⊤ e (Keeps-trans _ _ _ c.find_row.ensures.reads.keeps c.delete.ensures.keeps) (λ x. x))
+    (λ e. changes_later old gone new ⊤ ⊤ e (Keeps-trans _ _ _ c.find_row.ensures.reads.keeps c.delete.ensures.leaves.keeps) (λ x. x))
     (c.remove_entries.ensures.done faithful wanted roots was trees indexes first at.indexes)
 
-pub returns-in_err-find_row-clause-usable : goal.returns-in_err-find_row-clause-usable
-returns-in_err-find_row-clause-usable g c = IfOk-from_err c.from_residual.result _ c.from_residual.ensures.0
+pub returns-in_err-find_row-clause-leaves : goal.returns-in_err-find_row-clause-leaves
+returns-in_err-find_row-clause-leaves g c = record { usable = IfOk-from_err c.from_residual.result _ c.from_residual.ensures.0; keeps = c.find_row.ensures.reads.keeps }
 
-pub returns-in_err-find_row-clause-keeps : goal.returns-in_err-find_row-clause-keeps
-returns-in_err-find_row-clause-keeps g c = c.find_row.ensures.reads.keeps
+pub returns-then-not-branch-clause-leaves : goal.returns-then-not-branch-clause-leaves
+returns-then-not-branch-clause-leaves g c = record { usable = c.in_ok-find_row.ensures.usable; keeps = c.find_row.ensures.reads.keeps }
 
-pub returns-then-not-branch-clause-usable : goal.returns-then-not-branch-clause-usable
-returns-then-not-branch-clause-usable g c = c.in_ok-find_row.ensures.usable
-
-pub returns-then-not-branch-clause-keeps : goal.returns-then-not-branch-clause-keeps
-returns-then-not-branch-clause-keeps g c = c.find_row.ensures.reads.keeps
-
-pub returns-in_err-read_row-clause-usable : goal.returns-in_err-read_row-clause-usable
-returns-in_err-read_row-clause-usable g c = IfOk-from_err c.from_residual-in_err-read_row.result _ c.from_residual-in_err-read_row.ensures.0
-
-pub returns-in_err-read_row-clause-keeps : goal.returns-in_err-read_row-clause-keeps
-returns-in_err-read_row-clause-keeps g c = c.find_row.ensures.reads.keeps
-
-pub returns-in_err-delete-clause-usable : goal.returns-in_err-delete-clause-usable
-returns-in_err-delete-clause-usable g c = IfOk-from_err c.from_residual-in_err-delete.result _ c.from_residual-in_err-delete.ensures.0
-
-pub returns-clause-usable : goal.returns-clause-usable
-returns-clause-usable g c = c.remove_entries.ensures.usable c.in_ok-delete.ensures.usable
+pub returns-in_err-read_row-clause-leaves : goal.returns-in_err-read_row-clause-leaves
+returns-in_err-read_row-clause-leaves g c = record { usable = IfOk-from_err c.from_residual-in_err-read_row.result _ c.from_residual-in_err-read_row.ensures.0; keeps = c.find_row.ensures.reads.keeps }

@@ -16,11 +16,11 @@ use Rattle.page_places.proofs.Filling.{changes_later, refused_fails}
 use Rattle.page_places.proofs.Outcomes.{as_given, inserted, match_result}
 use Rattle.row_writes.proofs.rows.insert.Goals as goal
 
-pub returns-in_err-row-clause-keeps : goal.returns-in_err-row-clause-keeps
-returns-in_err-row-clause-keeps g c = Keeps-refl (state c.args.file.now.pool)
+pub returns-in_err-row-clause-leaves : goal.returns-in_err-row-clause-leaves
+returns-in_err-row-clause-leaves g c = record { usable = IfOk-from_err c.from_residual.result _ c.from_residual.ensures.0; keeps = Keeps-refl (state c.args.file.now.pool) }
 
-pub returns-in_err-write_record-clause-keeps : goal.returns-in_err-write_record-clause-keeps
-returns-in_err-write_record-clause-keeps g c = Keeps-refl (state c.args.file.now.pool)
+pub returns-in_err-write_record-clause-leaves : goal.returns-in_err-write_record-clause-leaves
+returns-in_err-write_record-clause-leaves g c = record { usable = IfOk-from_err c.from_residual-in_err-write_record.result _ c.from_residual-in_err-write_record.ensures.0; keeps = Keeps-refl (state c.args.file.now.pool) }
 
 pub returns-in_err-write_record-clause-done : goal.returns-in_err-write_record-clause-done
 returns-in_err-write_record-clause-done g c faithful = λ schema wanted roots was now table shows above.
@@ -55,26 +55,14 @@ returns-clause-done g c faithful = λ schema wanted roots was now table shows ab
     let last = c.insert_entries.ensures.done faithful wanted roots was trees indexes put at.indexes in
     match_result c.insert_entries.result
     (λ w. inserted c.args.place.now schema wanted roots was now table old new shows c.args.rowid c.args.columns.now above (subst (λ (r : Row). Writes wanted roots was (with_entries insert_entry r trees indexes) new) is w))
-    (λ e. changes_later old mid new (AreStorable c.in_ok-row.row indexes) (IsStorableRow 0 row × AreStorable row indexes) e c.put.ensures.keeps (λ both. subst (λ (r : Row). AreStorable r indexes) (sym is) both.1))
+    (λ e. changes_later old mid new (AreStorable c.in_ok-row.row indexes) (IsStorableRow 0 row × AreStorable row indexes) e c.put.ensures.leaves.keeps (λ both. subst (λ (r : Row). AreStorable r indexes) (sym is) both.1))
     last
 
-pub returns-clause-keeps : goal.returns-clause-keeps
-returns-clause-keeps g c = Keeps-trans _ _ _ c.put.ensures.keeps c.insert_entries.ensures.keeps
+pub returns-clause-leaves : goal.returns-clause-leaves
+returns-clause-leaves g c = record { usable = c.insert_entries.ensures.usable c.in_ok-put.ensures.leaves.usable; keeps = Keeps-trans _ _ _ c.put.ensures.leaves.keeps c.insert_entries.ensures.keeps }
 
 pub returns-in_err-row-clause-done : goal.returns-in_err-row-clause-done
 returns-in_err-row-clause-done g c = λ faithful schema wanted roots was now table shows above. let p = err_from_is_err_and c.from_residual.result c.from_residual.ensures.1 in rw (p.1, p.2) tt
 
-pub returns-in_err-row-clause-usable : goal.returns-in_err-row-clause-usable
-returns-in_err-row-clause-usable g c = IfOk-from_err c.from_residual.result _ c.from_residual.ensures.0
-
-pub returns-in_err-write_record-clause-usable : goal.returns-in_err-write_record-clause-usable
-returns-in_err-write_record-clause-usable g c = IfOk-from_err c.from_residual-in_err-write_record.result _ c.from_residual-in_err-write_record.ensures.0
-
-pub returns-in_err-put-clause-usable : goal.returns-in_err-put-clause-usable
-returns-in_err-put-clause-usable g c = IfOk-from_err c.from_residual-in_err-put.result _ c.from_residual-in_err-put.ensures.0
-
-pub returns-in_err-put-clause-keeps : goal.returns-in_err-put-clause-keeps
-returns-in_err-put-clause-keeps g c = c.put.ensures.keeps
-
-pub returns-clause-usable : goal.returns-clause-usable
-returns-clause-usable g c = c.insert_entries.ensures.usable c.in_ok-put.ensures.usable
+pub returns-in_err-put-clause-leaves : goal.returns-in_err-put-clause-leaves
+returns-in_err-put-clause-leaves g c = record { usable = IfOk-from_err c.from_residual-in_err-put.result _ c.from_residual-in_err-put.ensures.0; keeps = c.put.ensures.leaves.keeps }

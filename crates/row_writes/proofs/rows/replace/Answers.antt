@@ -13,11 +13,11 @@ use Rattle.page_places.proofs.Filling.{refused_fails}
 use Rattle.page_places.proofs.Outcomes.{as_given, replaced}
 use Rattle.row_writes.proofs.rows.replace.Goals as goal
 
-pub returns-in_err-row-clause-keeps : goal.returns-in_err-row-clause-keeps
-returns-in_err-row-clause-keeps g c = Keeps-refl (state c.args.file.now.pool)
+pub returns-in_err-row-clause-leaves : goal.returns-in_err-row-clause-leaves
+returns-in_err-row-clause-leaves g c = record { usable = IfOk-from_err c.from_residual.result _ c.from_residual.ensures.0; keeps = Keeps-refl (state c.args.file.now.pool) }
 
-pub returns-in_err-write_record-clause-keeps : goal.returns-in_err-write_record-clause-keeps
-returns-in_err-write_record-clause-keeps g c = Keeps-refl (state c.args.file.now.pool)
+pub returns-in_err-write_record-clause-leaves : goal.returns-in_err-write_record-clause-leaves
+returns-in_err-write_record-clause-leaves g c = record { usable = IfOk-from_err c.from_residual-in_err-write_record.result _ c.from_residual-in_err-write_record.ensures.0; keeps = Keeps-refl (state c.args.file.now.pool) }
 
 pub returns-in_err-write_record-clause-done : goal.returns-in_err-write_record-clause-done
 returns-in_err-write_record-clause-done g c faithful = λ schema wanted roots was now table shows keeps.
@@ -50,20 +50,8 @@ returns-clause-done g c faithful = λ schema wanted roots was now table shows ke
 pub returns-in_err-row-clause-done : goal.returns-in_err-row-clause-done
 returns-in_err-row-clause-done g c = λ faithful schema wanted roots was now table shows keeps. let p = err_from_is_err_and c.from_residual.result c.from_residual.ensures.1 in rw (p.1, p.2) tt
 
-pub returns-in_err-row-clause-usable : goal.returns-in_err-row-clause-usable
-returns-in_err-row-clause-usable g c = IfOk-from_err c.from_residual.result _ c.from_residual.ensures.0
+pub returns-in_err-put-clause-leaves : goal.returns-in_err-put-clause-leaves
+returns-in_err-put-clause-leaves g c = record { usable = IfOk-from_err c.from_residual-in_err-put.result _ c.from_residual-in_err-put.ensures.0; keeps = c.put.ensures.leaves.keeps }
 
-pub returns-in_err-write_record-clause-usable : goal.returns-in_err-write_record-clause-usable
-returns-in_err-write_record-clause-usable g c = IfOk-from_err c.from_residual-in_err-write_record.result _ c.from_residual-in_err-write_record.ensures.0
-
-pub returns-in_err-put-clause-usable : goal.returns-in_err-put-clause-usable
-returns-in_err-put-clause-usable g c = IfOk-from_err c.from_residual-in_err-put.result _ c.from_residual-in_err-put.ensures.0
-
-pub returns-in_err-put-clause-keeps : goal.returns-in_err-put-clause-keeps
-returns-in_err-put-clause-keeps g c = c.put.ensures.keeps
-
-pub returns-clause-usable : goal.returns-clause-usable
-returns-clause-usable g c = c.in_ok-put.ensures.usable
-
-pub returns-clause-keeps : goal.returns-clause-keeps
-returns-clause-keeps g c = c.put.ensures.keeps
+pub returns-clause-leaves : goal.returns-clause-leaves
+returns-clause-leaves g c = record { usable = c.in_ok-put.ensures.leaves.usable; keeps = c.put.ensures.leaves.keeps }

@@ -45,20 +45,20 @@ returns-in_err-rowids-clause-done g c faithful = λ schema wanted roots was now 
     let p = err_from_is_err_and c.from_residual-in_err-rowids.result c.from_residual-in_err-rowids.ensures.1 in
     rw (p.1, p.2) (find_fails old mid _ c.rowids_under.ensures.reads.keeps shows.writes.is_open faithful (c.in_err-rowids.ensures.done faithful wanted first.0.tree seen))
 
-pub returns-in_err-delete_all-clause-keeps : goal.returns-in_err-delete_all-clause-keeps
-returns-in_err-delete_all-clause-keeps g c = Keeps-trans _ _ _ c.rowids_under.ensures.reads.keeps c.delete_all.ensures.keeps
+pub returns-in_err-delete_all-clause-leaves : goal.returns-in_err-delete_all-clause-leaves
+returns-in_err-delete_all-clause-leaves g c = record { usable = IfOk-from_err c.from_residual-in_err-delete_all.result _ c.from_residual-in_err-delete_all.ensures.0; keeps = Keeps-trans _ _ _ c.rowids_under.ensures.reads.keeps c.delete_all.ensures.leaves.keeps }
 
 pub returns-in_err-delete_all-clause-done : goal.returns-in_err-delete_all-clause-done
 returns-in_err-delete_all-clause-done g c faithful = λ schema wanted roots was now table shows led.
     let old = c.args.file.now in
     let mid = c.rowids_under.new.file in
-    let before = c.delete_all.ensures.keeps.stays.clean faithful in
+    let before = c.delete_all.ensures.leaves.keeps.stays.clean faithful in
     let w = writes_after old mid c.rowids_under.ensures.reads before c.in_ok-rowids.ensures.usable shows.writes in
     let p = err_from_is_err_and c.from_residual-in_err-delete_all.result c.from_residual-in_err-delete_all.ensures.1 in
     rw (p.1, p.2) (fails_later old mid c.delete_all.new.self _ c.rowids_under.ensures.reads.keeps (c.in_err-delete_all.ensures.done faithful wanted roots was now table.tree w shows.placed.at))
 
-pub returns-clause-keeps : goal.returns-clause-keeps
-returns-clause-keeps g c = Keeps-trans _ _ _ (Keeps-trans _ _ _ c.rowids_under.ensures.reads.keeps c.delete_all.ensures.keeps) c.remove_all_under.ensures.keeps
+pub returns-clause-leaves : goal.returns-clause-leaves
+returns-clause-leaves g c = record { usable = c.remove_all_under.ensures.usable c.in_ok-delete_all.ensures.leaves.usable; keeps = Keeps-trans _ _ _ (Keeps-trans _ _ _ c.rowids_under.ensures.reads.keeps c.delete_all.ensures.leaves.keeps) c.remove_all_under.ensures.keeps }
 
 pub returns-clause-done : goal.returns-clause-done
 returns-clause-done g c faithful = λ schema wanted roots was now table shows led.
@@ -70,7 +70,7 @@ returns-clause-done g c faithful = λ schema wanted roots was now table shows le
     let rows = now table.tree in
     let n = c.args.number in
     let clean = c.remove_all_under.ensures.keeps.stays.clean faithful in
-    let before = c.delete_all.ensures.keeps.stays.clean clean in
+    let before = c.delete_all.ensures.leaves.keeps.stays.clean clean in
     let places = c.args.place.now.indexes.now in
     let same : to_z w64 (of_z w64 n) ≡ n = to_z-of_z c.ranges.number in
     let prefix : c.push.new.self ≡ Int n ∷ [] = c.in_ok-push.ensures.ok ∙ ap (λ (l : Row). l ++ Int (to_z w64 (of_z w64 n)) ∷ []) c.new-prefix.ensures ∙ ap (λ z. Int z ∷ []) same in
@@ -97,41 +97,23 @@ returns-clause-done g c faithful = λ schema wanted roots was now table shows le
     let trees = with_tree now table.tree (rows_left (is_under n) rows) in
     match_result c.remove_all_under.result
     (λ v. erased_under c.args.place.now schema wanted roots was now table old new shows n led_all (subst (λ (key : Row). Writes wanted roots was (with_entries (out_under key) [] trees indexes) new) prefix v))
-    (λ e. changes_later old gone new ⊤ ⊤ e (Keeps-trans _ _ _ c.rowids_under.ensures.reads.keeps c.delete_all.ensures.keeps) (λ x. x))
+    (λ e. changes_later old gone new ⊤ ⊤ e (Keeps-trans _ _ _ c.rowids_under.ensures.reads.keeps c.delete_all.ensures.leaves.keeps) (λ x. x))
     (c.remove_all_under.ensures.done faithful wanted roots was trees indexes taken shows.placed.indexes)
 
-pub returns-in_err-if_usable-clause-usable : goal.returns-in_err-if_usable-clause-usable
-returns-in_err-if_usable-clause-usable g c = IfOk-from_err c.from_residual.result _ c.from_residual.ensures.0
+pub returns-in_err-if_usable-clause-leaves : goal.returns-in_err-if_usable-clause-leaves
+returns-in_err-if_usable-clause-leaves g c = record { usable = IfOk-from_err c.from_residual.result _ c.from_residual.ensures.0; keeps = Keeps-refl _ }
 
-pub returns-in_err-if_usable-clause-keeps : goal.returns-in_err-if_usable-clause-keeps
-returns-in_err-if_usable-clause-keeps g c = Keeps-refl _
-
-pub returns-then-is_empty-clause-usable : goal.returns-then-is_empty-clause-usable
-returns-then-is_empty-clause-usable g c = c.in_ok-if_usable.ensures.usable
-
-pub returns-then-is_empty-clause-keeps : goal.returns-then-is_empty-clause-keeps
-returns-then-is_empty-clause-keeps g c = Keeps-refl _
+pub returns-then-is_empty-clause-leaves : goal.returns-then-is_empty-clause-leaves
+returns-then-is_empty-clause-leaves g c = record { usable = c.in_ok-if_usable.ensures.usable; keeps = Keeps-refl _ }
 
 pub returns-in_err-push-clause-done : goal.returns-in_err-push-clause-done
 returns-in_err-push-clause-done g c = λ faithful schema wanted roots was now table shows led. let p = err_from_is_err_and c.from_residual-in_err-push.result c.from_residual-in_err-push.ensures.1 in rw (p.1, p.2) tt
 
-pub returns-in_err-push-clause-usable : goal.returns-in_err-push-clause-usable
-returns-in_err-push-clause-usable g c = IfOk-from_err c.from_residual-in_err-push.result _ c.from_residual-in_err-push.ensures.0
+pub returns-in_err-push-clause-leaves : goal.returns-in_err-push-clause-leaves
+returns-in_err-push-clause-leaves g c = record { usable = IfOk-from_err c.from_residual-in_err-push.result _ c.from_residual-in_err-push.ensures.0; keeps = Keeps-refl _ }
 
-pub returns-in_err-push-clause-keeps : goal.returns-in_err-push-clause-keeps
-returns-in_err-push-clause-keeps g c = Keeps-refl _
-
-pub returns-in_err-rowids-clause-usable : goal.returns-in_err-rowids-clause-usable
-returns-in_err-rowids-clause-usable g c = IfOk-from_err c.from_residual-in_err-rowids.result _ c.from_residual-in_err-rowids.ensures.0
-
-pub returns-in_err-rowids-clause-keeps : goal.returns-in_err-rowids-clause-keeps
-returns-in_err-rowids-clause-keeps g c = c.rowids_under.ensures.reads.keeps
-
-pub returns-in_err-delete_all-clause-usable : goal.returns-in_err-delete_all-clause-usable
-returns-in_err-delete_all-clause-usable g c = IfOk-from_err c.from_residual-in_err-delete_all.result _ c.from_residual-in_err-delete_all.ensures.0
-
-pub returns-clause-usable : goal.returns-clause-usable
-returns-clause-usable g c = c.remove_all_under.ensures.usable c.in_ok-delete_all.ensures.usable
+pub returns-in_err-rowids-clause-leaves : goal.returns-in_err-rowids-clause-leaves
+returns-in_err-rowids-clause-leaves g c = record { usable = IfOk-from_err c.from_residual-in_err-rowids.result _ c.from_residual-in_err-rowids.ensures.0; keeps = c.rowids_under.ensures.reads.keeps }
 
 pub bounds-place-0 : goal.bounds-place-0
 bounds-place-0 g c = omega (arith, eqb-false (length c.args.place.now.indexes.now) 0 (sym c.is_empty.ensures ∙ c.if-is_empty.false))

@@ -12,14 +12,14 @@ pub loop-index-init : goal.loop-index-init
 loop-index-init g c = none_edited c.args.file.now c.args.indexes.now (out_under c.args.prefix.now) [] (Keeps-refl (state c.args.file.now.pool))
 
 pub returns-in_err-remove_under-clause-keeps : goal.returns-in_err-remove_under-clause-keeps
-returns-in_err-remove_under-clause-keeps g c = Keeps-trans _ _ _ c.loop-index.invariant.keeps c.remove_under.ensures.keeps
+returns-in_err-remove_under-clause-keeps g c = Keeps-trans _ _ _ c.loop-index.invariant.keeps c.remove_under.ensures.leaves.keeps
 
 pub returns-in_err-remove_under-clause-done : goal.returns-in_err-remove_under-clause-done
 returns-in_err-remove_under-clause-done g c faithful = λ wanted roots was now indexes w all.
     let edit = out_under c.args.prefix.now in
     let file = c.loop-index.file in
     let new = c.remove_under.new.self in
-    let part = c.loop-index.invariant.part (c.remove_under.ensures.keeps.stays.clean faithful) wanted roots was now indexes w all in
+    let part = c.loop-index.invariant.part (c.remove_under.ensures.leaves.keeps.stays.clean faithful) wanted roots was now indexes w all in
     let n = next_index wanted roots was now c.args.indexes.now indexes edit [] c.loop-index.index-index file part _ c.loop-index-test.true in
     let p = err_from_is_err_and c.from_residual.result c.from_residual.ensures.1 in
     rw (p.1, p.2) (fails_later c.args.file.now file new _ c.loop-index.invariant.keeps
@@ -31,10 +31,10 @@ loop-index-preserved g c =
     let file = c.loop-index.file in
     let new = c.remove_under.new.self in
     record {
-      keeps = Keeps-trans _ _ _ c.loop-index.invariant.keeps c.remove_under.ensures.keeps;
-      usable = λ ready. c.in_ok-remove_under.ensures.usable;
+      keeps = Keeps-trans _ _ _ c.loop-index.invariant.keeps c.remove_under.ensures.leaves.keeps;
+      usable = λ ready. c.in_ok-remove_under.ensures.leaves.usable;
       part = λ faithful wanted roots was now indexes w all.
-          let part = c.loop-index.invariant.part (c.remove_under.ensures.keeps.stays.clean faithful) wanted roots was now indexes w all in
+          let part = c.loop-index.invariant.part (c.remove_under.ensures.leaves.keeps.stays.clean faithful) wanted roots was now indexes w all in
           one_more wanted roots was now c.args.indexes.now indexes edit [] c.loop-index.index-index file part _ c.loop-index-test.true _ new refl
           (λ i place. c.in_ok-remove_under.ensures.done faithful wanted roots was (with_entries edit [] now part.done) i.tree part.writes place.at);
     }

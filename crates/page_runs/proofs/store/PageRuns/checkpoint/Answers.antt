@@ -5,7 +5,7 @@ use Rattle.page_runs.proofs.store.PageRuns.checkpoint.Goals as goal
 pub returns-in-Ok : goal.returns-in-Ok
 returns-in-Ok g c =
     let same : StaysSame _ _ = record {
-      keeps = c.checkpoint.ensures.keeps;
+      keeps = c.checkpoint.ensures.leaves.keeps;
       pages = λ faithful usable. c.checkpoint.ensures.pages faithful usable;
       rests = λ faithful usable wanted known db was. c.checkpoint.ensures.rests faithful usable wanted known db was;
     } in
@@ -14,7 +14,7 @@ returns-in-Ok g c =
 pub returns-in-Err : goal.returns-in-Err
 returns-in-Err g c =
     let same : StaysSame _ _ = record {
-      keeps = c.checkpoint.ensures.keeps;
+      keeps = c.checkpoint.ensures.leaves.keeps;
       pages = λ faithful usable. c.checkpoint.ensures.pages faithful usable;
       rests = λ faithful usable wanted known db was. c.checkpoint.ensures.rests faithful usable wanted known db was;
     } in

@@ -11,12 +11,12 @@ pub returns-clause-changes : goal.returns-clause-changes
 returns-clause-changes g c faithful =
     let old = c.args.self.now in
     let mid : PageRuns g.row.D.Denot g.D.Disk = record old { file = c.leave-written.new.file } in
-    changed_any (λ _. ⊤) (without_member c.args.name.now c.args.run) old mid _ c.leave-written.ensures.keeps refl refl refl c.leave-written.result _ c.finish.ensures
+    changed_any (λ _. ⊤) (without_member c.args.name.now c.args.run) old mid _ c.leave-written.ensures.leaves.keeps refl refl refl c.leave-written.result _ c.finish.ensures
     (λ clean t given was. group_made old mid (without_member c.args.name.now c.args.run) c.leave-written.result c.leave-written.ensures.done clean t was) (λ t given sound. without_member_in_order c.args.name.now c.args.run t) faithful (λ t. tt)
 
 pub returns-clause-shut : goal.returns-clause-shut
 returns-clause-shut g c faithful =
     let old = c.args.self.now in
     let mid : PageRuns g.row.D.Denot g.D.Disk = record old { file = c.leave-written.new.file } in
-    kept_shut (λ _. ⊤) (without_member c.args.name.now c.args.run) old mid _ c.leave-written.ensures.keeps refl refl refl c.leave-written.result _ c.finish.ensures
-    (λ clean t given was. group_made old mid (without_member c.args.name.now c.args.run) c.leave-written.result c.leave-written.ensures.done clean t was) (λ t given sound. without_member_in_order c.args.name.now c.args.run t) faithful c.leave-written.ensures.usable
+    kept_shut (λ _. ⊤) (without_member c.args.name.now c.args.run) old mid _ c.leave-written.ensures.leaves.keeps refl refl refl c.leave-written.result _ c.finish.ensures
+    (λ clean t given was. group_made old mid (without_member c.args.name.now c.args.run) c.leave-written.result c.leave-written.ensures.done clean t was) (λ t given sound. without_member_in_order c.args.name.now c.args.run t) faithful c.leave-written.ensures.leaves.usable

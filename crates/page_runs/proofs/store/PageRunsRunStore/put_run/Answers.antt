@@ -20,7 +20,7 @@ returns-clause-changes g c faithful =
     let change : Tables → Tables = with_summed a.number a.kind a.digest.now a.label.now a.file.now in
     let ordered : (t : Tables) → t.next ≡ a.number → AreSound t → AreInOrder t → AreInOrder (change t) =
     λ t given sound order. filed_in_order (filed a.number a.kind a.digest.now a.label.now a.file.now.head.now (content_of a.file.now.rows.now)) t (sym given) sound order in
-    changed (λ t. t.next ≡ a.number) change old mid _ c.put_run-written.ensures.keeps refl refl refl c.put_run-written.result _ c.finish.ensures
+    changed (λ t. t.next ≡ a.number) change old mid _ c.put_run-written.ensures.leaves.keeps refl refl refl c.put_run-written.result _ c.finish.ensures
     (λ clean t given was. listed_made old mid change c.put_run-written.result c.put_run-written.ensures.done clean t was) ordered faithful
 
 pub returns-clause-shut : goal.returns-clause-shut
@@ -31,5 +31,5 @@ returns-clause-shut g c faithful =
     let change : Tables → Tables = with_summed a.number a.kind a.digest.now a.label.now a.file.now in
     let ordered : (t : Tables) → t.next ≡ a.number → AreSound t → AreInOrder t → AreInOrder (change t) =
     λ t given sound order. filed_in_order (filed a.number a.kind a.digest.now a.label.now a.file.now.head.now (content_of a.file.now.rows.now)) t (sym given) sound order in
-    kept_shut (λ t. t.next ≡ a.number) change old mid _ c.put_run-written.ensures.keeps refl refl refl c.put_run-written.result _ c.finish.ensures
-    (λ clean t given was. listed_made old mid change c.put_run-written.result c.put_run-written.ensures.done clean t was) ordered faithful c.put_run-written.ensures.usable
+    kept_shut (λ t. t.next ≡ a.number) change old mid _ c.put_run-written.ensures.leaves.keeps refl refl refl c.put_run-written.result _ c.finish.ensures
+    (λ clean t given was. listed_made old mid change c.put_run-written.result c.put_run-written.ensures.done clean t was) ordered faithful c.put_run-written.ensures.leaves.usable
