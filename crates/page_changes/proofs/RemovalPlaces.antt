@@ -1,29 +1,21 @@
 -- Where the tables of runs stand in a transaction over a store.
-use Rattle.std.proofs.Common.{◌≡◌, ◌==◌, ℕ, pos, List, slice_get, slice_index, Some, is_eq, not, filter, refl, sym, ap, subst, ◌∙◌, arith}
+use Rattle.std.proofs.Common.{◌≡◌, ◌==◌, ℕ, pos, List, is_eq, not, filter, sym, ap, subst, ◌∙◌, arith}
 use Rattle.std.proofs.lemmas.Bool.Decides.{nat_tests}
 use Rattle.std.proofs.lemmas.Int.{ints}
 use Rattle.sqlite_disk.specs.declared.Disk.{Ghosts}
-use Rattle.sqlite_rules.proofs.ListLemmas.{has_got}
-use Rattle.sqlite_schema.specs.declared.schema.Index.{Index}
 use Rattle.sqlite_schema.specs.declared.schema.Table.{Table}
 use Rattle.sqlite_store.specs.declared.catalog.Wanted.{Wanted}
 use Rattle.sqlite_trees.specs.declared.store.Shape.TheVariants as shape
 use Rattle.sqlite_trees.specs.Tree.{Trees}
 use Rattle.sqlite_value.specs.declared.value.Value.TheVariants.{Int}
-use Rattle.sqlite_value.specs.Keys.{plain}
 use Rattle.sqlite_value.specs.Order.{value_cmp}
 use Rattle.sqlite_value.proofs.OrderLemmas.{value_cmp-Int}
-use Rattle.page_places.proofs.Placing.{index_placed_at, placed_at}
 use Rattle.page_files.specs.declared.files.PageFile.{PageFile}
 use Rattle.page_files.specs.Held.{Writes}
-use Rattle.page_files.proofs.Standing.{catalog_shown, stands_writing}
 use Rattle.plain_tables.specs.Tables.{Tables, EventRow, DerivedRow, CoefRow, StoredCell, StoredCall, StoredStack}
-use Rattle.page_places.specs.declared.places.IndexPlace.{IndexPlace}
-use Rattle.page_places.specs.declared.places.Place.{Place}
-use Rattle.page_places.specs.Changes.{HasRows, Shows}
+use Rattle.page_places.specs.Changes.{HasRows}
 use Rattle.row_writes.specs.Tests.{rows_left}
 use Rattle.row_writes.specs.Under.{is_under}
-use Rattle.page_places.specs.Places.{AreIndexPlaces, IsIndexPlace, indexes_of, IsSpaced}
 use Rattle.prof_store.specs.Schema.{schema_two, run_event_at, derived_at, coef_at, thread_cell_at, arc_at, stack_at}
 use Rattle.prof_store.specs.Tables.{Holds}
 use Rattle.sqlite_trees.specs.View.{IsShaped}
@@ -32,34 +24,6 @@ use Rattle.page_places.proofs.Runs.{calls_taken_out, cells_taken_out, coefs_take
 -- numbers as SQL compares them
 pub same_number : (m n : ℕ) → is_eq (value_cmp (Int (pos m)) (Int (pos n))) ≡ (m == n)
 same_number m n = ap is_eq (value_cmp-Int (pos m) (pos n)) ∙ grind (arith, ints, nat_tests)
-
-spaced : IsSpaced schema_two
-spaced = record { apart = refl; of_tables = refl }
-
-module _ {D : Type 0} {g : Ghosts D} (file : PageFile D g) {wanted : List Wanted} {known : List ℕ} {was now : Trees} {t : Tables} (writes : Writes wanted known was now file) (holds : Holds t now) where
-  -- an index of the schema
-  pub key_at : (under : ℕ) (index : Index) → slice_get schema_two.indexes under ≡ Some index → index.order ≡ plain → (place : IndexPlace) → place.root ≡ slice_index known index.tree → place.columns.now ≡ index.columns
-      → IsIndexPlace wanted known place index
-  key_at under index there order place root columns =
-      let placed = index_placed_at wanted now (catalog_shown file (stands_writing file writes)) holds.contain.sound under index there in
-      record { at = record { low = placed.low; shape_is = placed.named.shape ∙ ap (λ o. shape.Index o) order; root_is = sym root }; no_reals = placed.plain; columns = columns }
-
-  -- a table of the schema, with its indexes
-  pub table_at : (at : ℕ) (table : Table) → slice_get schema_two.tables at ≡ Some table → (place : Place) → place.root ≡ slice_index known table.tree → AreIndexPlaces wanted known place.indexes.now (indexes_of schema_two table)
-      → Shows place schema_two wanted known was now table file
-  table_at at table there place root indexes =
-      let placed = placed_at wanted now (catalog_shown file (stands_writing file writes)) holds.contain.sound at table there in
-      record {
-        writes = writes;
-        placed = record {
-          at = record { low = placed.low; shape_is = placed.named.shape; root_is = sym root };
-          no_reals = placed.plain;
-          indexes = indexes;
-          listed = has_got schema_two.tables at table there;
-          spaced = spaced;
-        };
-        indexed = holds.contain.sound.obeys.indexed;
-      }
 
 -- ---- the rows of a run in one table
 

@@ -10,7 +10,7 @@ ghost use Rattle.page_changes.specs.Removed.{ClearsAll, ClearsOne, DropsWithin, 
 
 use crate::members::OfRun;
 use page_files::PageFile;
-use page_places::{IndexPlace, Place, StoreRoots, error_of, error_of_row};
+use page_places::{Place, StoreRoots, error_of, error_of_row};
 use plain_tables::StoreError;
 use row_writes::{replace, rowids_where};
 use sqlite_disk::Disk;
@@ -101,14 +101,8 @@ pub(crate) fn clear_baselines<D: Disk>(
     ensures done { DropsWithin file.old file.new roots.now (without_baselines run) (IsNoBaseline run) result }
     ensures leaves { LeavesUsable file.old file.new result }
 {
-    let keys = [IndexPlace {
-        root: roots.group_names,
-        columns: &[1],
-    }];
-    let place = Place {
-        root: roots.groups,
-        indexes: &keys,
-    };
+    let table = roots.group_table();
+    let place = table.place();
     let rowids = match rowids_where(file, alloc, &place, &OfRun(run)) {
         Ok(rowids) => rowids,
         Err(error) => return Err(error_of_row(error)),

@@ -3,7 +3,7 @@ ghost use Rattle.page_files.specs.Files.{LeavesUsable};
 ghost use Rattle.page_changes.specs.Removed.{Anything, DropsWithin, ErasesRun, without_costs, without_events};
 
 use page_files::PageFile;
-use page_places::{IndexPlace, Place, StoreRoots, error_of_row};
+use page_places::{Place, StoreRoots, error_of_row};
 use plain_tables::StoreError;
 use row_writes::erase_under;
 use sqlite_disk::Disk;
@@ -35,57 +35,9 @@ pub(crate) fn drop_events<D: Disk>(
     ensures done { DropsWithin file.old file.new roots.now (without_events run) Anything result }
     ensures leaves { LeavesUsable file.old file.new result }
 {
-    let event_keys = [
-        IndexPlace {
-            root: roots.event_places,
-            columns: &[1, 2],
-        },
-        IndexPlace {
-            root: roots.event_names,
-            columns: &[1, 3],
-        },
-    ];
-    let derived_keys = [
-        IndexPlace {
-            root: roots.derived_places,
-            columns: &[1, 2],
-        },
-        IndexPlace {
-            root: roots.derived_names,
-            columns: &[1, 3],
-        },
-    ];
-    let coef_keys = [IndexPlace {
-        root: roots.coef_keys,
-        columns: &[1, 2, 3],
-    }];
-    erase_run(
-        file,
-        alloc,
-        &Place {
-            root: roots.events,
-            indexes: &event_keys,
-        },
-        run,
-    )?;
-    erase_run(
-        file,
-        alloc,
-        &Place {
-            root: roots.derived,
-            indexes: &derived_keys,
-        },
-        run,
-    )?;
-    erase_run(
-        file,
-        alloc,
-        &Place {
-            root: roots.coefs,
-            indexes: &coef_keys,
-        },
-        run,
-    )
+    erase_run(file, alloc, &roots.event_table().place(), run)?;
+    erase_run(file, alloc, &roots.derived_table().place(), run)?;
+    erase_run(file, alloc, &roots.coef_table().place(), run)
 }
 
 /// Erases the costs of a run.
@@ -98,43 +50,7 @@ pub(crate) fn drop_costs<D: Disk>(
     ensures done { DropsWithin file.old file.new roots.now (without_costs run) Anything result }
     ensures leaves { LeavesUsable file.old file.new result }
 {
-    let cell_keys = [IndexPlace {
-        root: roots.cell_keys,
-        columns: &[1, 5, 6, 4, 3, 2, 7],
-    }];
-    let call_keys = [IndexPlace {
-        root: roots.call_keys,
-        columns: &[1, 2, 3, 4, 5, 6, 7, 8, 9],
-    }];
-    let stack_keys = [IndexPlace {
-        root: roots.stack_frames,
-        columns: &[1, 2],
-    }];
-    erase_run(
-        file,
-        alloc,
-        &Place {
-            root: roots.cells,
-            indexes: &cell_keys,
-        },
-        run,
-    )?;
-    erase_run(
-        file,
-        alloc,
-        &Place {
-            root: roots.calls,
-            indexes: &call_keys,
-        },
-        run,
-    )?;
-    erase_run(
-        file,
-        alloc,
-        &Place {
-            root: roots.stacks,
-            indexes: &stack_keys,
-        },
-        run,
-    )
+    erase_run(file, alloc, &roots.cell_table().place(), run)?;
+    erase_run(file, alloc, &roots.call_table().place(), run)?;
+    erase_run(file, alloc, &roots.stack_table().place(), run)
 }

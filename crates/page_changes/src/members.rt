@@ -3,7 +3,7 @@ ghost use Rattle.page_files.specs.Files.{LeavesUsable};
 ghost use Rattle.page_changes.specs.Removed.{Anything, DropsWithin, without_memberships};
 
 use page_files::PageFile;
-use page_places::{IndexPlace, Place, StoreRoots, error_of_row};
+use page_places::{StoreRoots, error_of_row};
 use plain_tables::StoreError;
 use row_writes::{RowTest, erase_where};
 use sqlite_disk::Disk;
@@ -43,15 +43,7 @@ pub(crate) fn drop_members<D: Disk>(
     ensures done { DropsWithin file.old file.new roots.now (without_memberships run) Anything result }
     ensures leaves { LeavesUsable file.old file.new result }
 {
-    let keys = [IndexPlace {
-        root: roots.member_keys,
-        columns: &[1, 2],
-    }];
-    let place = Place {
-        root: roots.members,
-        indexes: &keys,
-    };
-    match erase_where(file, alloc, &place, &OfRun(run)) {
+    match erase_where(file, alloc, &roots.member_table().place(), &OfRun(run)) {
         Ok(()) => Ok(()),
         Err(error) => Err(error_of_row(error)),
     }

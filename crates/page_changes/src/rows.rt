@@ -11,7 +11,7 @@ ghost use Rattle.page_changes.specs.Named.{CanBeFound};
 
 use crate::finding::find_named;
 use page_files::PageFile;
-use page_places::{IndexPlace, Place, StoreRoots, error_of_row, free_rowid};
+use page_places::{Place, StoreRoots, error_of_row, free_rowid};
 use plain_tables::StoreError;
 use row_writes::{RowTest, erase, erase_where, insert, replace};
 use sqlite_disk::Disk;
@@ -66,16 +66,8 @@ pub(crate) fn add_member<D: Disk>(
     ensures done { MakesWithin file.old file.new roots.now (CanJoin name.now run) (with_member name.now run) (HasRoomForMember name.now run) result }
     ensures leaves { LeavesUsable file.old file.new result }
 {
-    let keys = [IndexPlace {
-        root: roots.member_keys,
-        columns: &[1, 2],
-    }];
-    let place = Place {
-        root: roots.members,
-        indexes: &keys,
-    };
     let columns = named_columns(alloc, name, Some(run))?;
-    put_behind(file, alloc, &place, &columns)
+    put_behind(file, alloc, &roots.member_table().place(), &columns)
 }
 
 /// Puts a group of a name that is not held behind the others.
@@ -88,16 +80,8 @@ pub(crate) fn add_group<D: Disk>(
     ensures done { MakesWithin file.old file.new roots.now (λ t. has_group t name.now ≡ false) (with_group name.now) (HasRoomForGroup name.now) result }
     ensures leaves { LeavesUsable file.old file.new result }
 {
-    let keys = [IndexPlace {
-        root: roots.group_names,
-        columns: &[1],
-    }];
-    let place = Place {
-        root: roots.groups,
-        indexes: &keys,
-    };
     let columns = named_columns(alloc, name, None)?;
-    put_behind(file, alloc, &place, &columns)
+    put_behind(file, alloc, &roots.group_table().place(), &columns)
 }
 
 /// Erases the row of a name, and of a number where one is given, with its entries. `Store` where there is none.
@@ -132,15 +116,7 @@ pub(crate) fn erase_member<D: Disk>(
         (λ now. CanBeFound name.now (Some run) (now member_at.tree)) result }
     ensures leaves { LeavesUsable file.old file.new result }
 {
-    let keys = [IndexPlace {
-        root: roots.member_keys,
-        columns: &[1, 2],
-    }];
-    let place = Place {
-        root: roots.members,
-        indexes: &keys,
-    };
-    erase_named(file, alloc, &place, name, Some(run))
+    erase_named(file, alloc, &roots.member_table().place(), name, Some(run))
 }
 
 /// Makes a run that is held the baseline of a group. `Store` where there is no such group.
@@ -154,19 +130,17 @@ pub(crate) fn put_baseline<D: Disk>(
     ensures done { MakesWithin file.old file.new roots.now (λ t. has_run t run ≡ true) (with_baseline name.now run) (CanPutBaseline name.now run) result }
     ensures leaves { LeavesUsable file.old file.new result }
 {
-    let keys = [IndexPlace {
-        root: roots.group_names,
-        columns: &[1],
-    }];
-    let place = Place {
-        root: roots.groups,
-        indexes: &keys,
-    };
     let columns = named_columns(alloc, name, Some(run))?;
     let Some(row) = find_named(file, alloc, roots.groups, name.as_bytes(), None)? else {
         return Err(StoreError::Store);
     };
-    match replace(file, alloc, &place, row.rowid, &columns) {
+    match replace(
+        file,
+        alloc,
+        &roots.group_table().place(),
+        row.rowid,
+        &columns,
+    ) {
         Ok(()) => Ok(()),
         Err(error) => Err(error_of_row(error)),
     }
@@ -199,15 +173,7 @@ pub(crate) fn erase_members<D: Disk>(
     ensures done { MakesWithin file.old file.new roots.now (λ _. ⊤) (without_members name.now) (λ _. ⊤) result }
     ensures leaves { LeavesUsable file.old file.new result }
 {
-    let keys = [IndexPlace {
-        root: roots.member_keys,
-        columns: &[1, 2],
-    }];
-    let place = Place {
-        root: roots.members,
-        indexes: &keys,
-    };
-    match erase_where(file, alloc, &place, &OfName(name)) {
+    match erase_where(file, alloc, &roots.member_table().place(), &OfName(name)) {
         Ok(()) => Ok(()),
         Err(error) => Err(error_of_row(error)),
     }
@@ -224,13 +190,5 @@ pub(crate) fn erase_group<D: Disk>(
         (λ now. CanBeFound name.now None (now grp_at.tree)) result }
     ensures leaves { LeavesUsable file.old file.new result }
 {
-    let keys = [IndexPlace {
-        root: roots.group_names,
-        columns: &[1],
-    }];
-    let place = Place {
-        root: roots.groups,
-        indexes: &keys,
-    };
-    erase_named(file, alloc, &place, name, None)
+    erase_named(file, alloc, &roots.group_table().place(), name, None)
 }

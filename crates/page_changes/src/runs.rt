@@ -6,7 +6,7 @@ use crate::baselines::clear_baselines;
 use crate::lines::{drop_costs, drop_events};
 use crate::members::drop_members;
 use page_files::PageFile;
-use page_places::{IndexPlace, Place, StoreRoots, error_of_row, find_roots};
+use page_places::{StoreRoots, error_of_row, find_roots};
 use plain_tables::StoreError;
 use row_writes::erase;
 use run_lists::RunLists;
@@ -22,15 +22,7 @@ fn drop_its_row<D: Disk>(
     ensures done { DropsRow file.old file.new roots.now run result }
     ensures leaves { LeavesUsable file.old file.new result }
 {
-    let keys = [IndexPlace {
-        root: roots.run_digests,
-        columns: &[3],
-    }];
-    let place = Place {
-        root: roots.runs,
-        indexes: &keys,
-    };
-    match erase(file, alloc, &place, i64::from(run)) {
+    match erase(file, alloc, &roots.run_table().place(), i64::from(run)) {
         Ok(()) => Ok(()),
         Err(error) => Err(error_of_row(error)),
     }

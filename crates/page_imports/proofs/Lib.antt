@@ -7,7 +7,7 @@ pub mod Named
 pub mod Numbers
 pub mod Results
 pub mod Runs
-pub mod Showing
+pub mod Mapped
 pub mod Small
 pub mod Stepping
 pub mod Unnamed

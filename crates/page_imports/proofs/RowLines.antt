@@ -9,7 +9,7 @@ use Rattle.cost_rows.specs.Plain.{plain_stack}
 use Rattle.cost_rows.specs.Walks.{counted_stacks}
 use Rattle.cost_rows.proofs.AboveLemmas.{above-more}
 use Rattle.plain_tables.specs.Tables.{StoredStack}
-use Rattle.run_stores.specs.Files.{call_row_of, call_rows_from, call_rows, stack_rows}
+use Rattle.run_stores.specs.Files.{call_row_of, call_rows_from, stack_rows}
 use Rattle.page_imports.specs.FromRows.{line_of_stack}
 
 -- a part more

@@ -14,7 +14,7 @@ ghost use Rattle.page_imports.specs.Steps.{Makes, PutsLines, head_tables};
 use crate::columns::{meta_columns, run_columns};
 use line_fills::fill;
 use page_files::PageFile;
-use page_places::{IndexPlace, Place, StoreRoots, error_of_row};
+use page_places::{Place, StoreRoots, error_of_row};
 use plain_tables::StoreError;
 use prof_store::{CoefRow, DerivedRow, EventRow, HeadRows, RunRow};
 use row_writes::{insert, replace};
@@ -55,15 +55,13 @@ fn put_run_row<D: Disk>(
     ensures leaves { LeavesUsable file.old file.new result }
 {
     let columns = run_columns(alloc, run)?;
-    let keys = [IndexPlace {
-        root: roots.run_digests,
-        columns: &[3],
-    }];
-    let place = Place {
-        root: roots.runs,
-        indexes: &keys,
-    };
-    match insert(file, alloc, &place, i64::from(run.number), &columns) {
+    match insert(
+        file,
+        alloc,
+        &roots.run_table().place(),
+        i64::from(run.number),
+        &columns,
+    ) {
         Ok(()) => Ok(()),
         Err(error) => Err(error_of_row(error)),
     }
@@ -80,21 +78,7 @@ fn put_events<D: Disk>(
         with_events (map event_row lines.now) result }
     ensures leaves { LeavesUsable file.old file.new result }
 {
-    let keys = [
-        IndexPlace {
-            root: roots.event_places,
-            columns: &[1, 2],
-        },
-        IndexPlace {
-            root: roots.event_names,
-            columns: &[1, 3],
-        },
-    ];
-    let place = Place {
-        root: roots.events,
-        indexes: &keys,
-    };
-    fill(file, alloc, &place, lines)
+    fill(file, alloc, &roots.event_table().place(), lines)
 }
 
 /// Puts the lines of a run's derived events behind the others.
@@ -108,21 +92,7 @@ fn put_derived<D: Disk>(
         with_derived (map derived_row lines.now) result }
     ensures leaves { LeavesUsable file.old file.new result }
 {
-    let keys = [
-        IndexPlace {
-            root: roots.derived_places,
-            columns: &[1, 2],
-        },
-        IndexPlace {
-            root: roots.derived_names,
-            columns: &[1, 3],
-        },
-    ];
-    let place = Place {
-        root: roots.derived,
-        indexes: &keys,
-    };
-    fill(file, alloc, &place, lines)
+    fill(file, alloc, &roots.derived_table().place(), lines)
 }
 
 /// Puts the lines of a run's coefficients behind the others.
@@ -136,15 +106,7 @@ fn put_coefs<D: Disk>(
         with_coefs (map coef_row lines.now) result }
     ensures leaves { LeavesUsable file.old file.new result }
 {
-    let keys = [IndexPlace {
-        root: roots.coef_keys,
-        columns: &[1, 2, 3],
-    }];
-    let place = Place {
-        root: roots.coefs,
-        indexes: &keys,
-    };
-    fill(file, alloc, &place, lines)
+    fill(file, alloc, &roots.coef_table().place(), lines)
 }
 
 /// Puts what a new run says of itself behind the others, and raises the next number above its own.

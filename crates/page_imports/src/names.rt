@@ -13,7 +13,7 @@ use crate::numbering::{NewName, Numbered};
 use cost_rows::Names;
 use line_fills::fill;
 use page_files::PageFile;
-use page_places::{IndexPlace, Place, StoreRoots, error_of, error_of_row, find_name, free_rowid};
+use page_places::{StoreRoots, error_of, error_of_row, find_name, free_rowid};
 use plain_tables::StoreError;
 use sqlite_disk::Disk;
 use std::alloc::Global;
@@ -28,15 +28,7 @@ fn next_name<D: Disk>(
     ensures reads { OnlyReads file.old file.new }
     ensures usable { OnOk result (IsUsable file.new) }
 {
-    let keys = [IndexPlace {
-        root: roots.name_bytes,
-        columns: &[2],
-    }];
-    let place = Place {
-        root: roots.names,
-        indexes: &keys,
-    };
-    let rowid = match free_rowid(file, alloc, &place) {
+    let rowid = match free_rowid(file, alloc, &roots.name_table().place()) {
         Ok(rowid) => rowid,
         Err(error) => return Err(error_of_row(error)),
     };
@@ -115,15 +107,7 @@ fn put_names<D: Disk>(
         (λ _. CanBePut name_at (map name_line (bytes_of news.now))) result }
     ensures leaves { LeavesUsable file.old file.new result }
 {
-    let keys = [IndexPlace {
-        root: roots.name_bytes,
-        columns: &[2],
-    }];
-    let place = Place {
-        root: roots.names,
-        indexes: &keys,
-    };
-    fill(file, alloc, &place, news)
+    fill(file, alloc, &roots.name_table().place(), news)
 }
 
 /// The numbers of a file's names, which are held from now on.

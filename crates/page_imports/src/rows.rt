@@ -17,7 +17,7 @@ use crate::run_names::RunNames;
 use cost_rows::FileRows;
 use line_fills::fill;
 use page_files::PageFile;
-use page_places::{IndexPlace, Place, StoreRoots};
+use page_places::StoreRoots;
 use plain_tables::StoreError;
 use sqlite_disk::Disk;
 use std::alloc::Global;
@@ -37,15 +37,7 @@ fn put_cells<D: Disk>(
 {
     let names = RunNames { run, numbers };
     let lines = cell_lines(alloc, &names, rows)?;
-    let keys = [IndexPlace {
-        root: roots.cell_keys,
-        columns: &[1, 5, 6, 4, 3, 2, 7],
-    }];
-    let place = Place {
-        root: roots.cells,
-        indexes: &keys,
-    };
-    fill(file, alloc, &place, &lines)
+    fill(file, alloc, &roots.cell_table().place(), &lines)
 }
 
 /// Puts the calls of a file behind the others, as `put_cells`.
@@ -63,15 +55,7 @@ fn put_calls<D: Disk>(
 {
     let names = RunNames { run, numbers };
     let lines = call_lines(alloc, &names, rows)?;
-    let keys = [IndexPlace {
-        root: roots.call_keys,
-        columns: &[1, 2, 3, 4, 5, 6, 7, 8, 9],
-    }];
-    let place = Place {
-        root: roots.calls,
-        indexes: &keys,
-    };
-    fill(file, alloc, &place, &lines)
+    fill(file, alloc, &roots.call_table().place(), &lines)
 }
 
 /// Puts the stacks of a file behind the others.
@@ -87,15 +71,7 @@ fn put_stacks<D: Disk>(
     ensures leaves { LeavesUsable file.old file.new result }
 {
     let lines = stack_lines(alloc, run, rows)?;
-    let keys = [IndexPlace {
-        root: roots.stack_frames,
-        columns: &[1, 2],
-    }];
-    let place = Place {
-        root: roots.stacks,
-        indexes: &keys,
-    };
-    fill(file, alloc, &place, &lines)
+    fill(file, alloc, &roots.stack_table().place(), &lines)
 }
 
 /// Puts the names of a file, where they are not held, and its rows behind the others. It holds the lines of one table

@@ -23,6 +23,7 @@ pub mod References
 pub mod Replaced
 pub mod Rooting
 pub mod Runs
+pub mod Showing
 pub mod Spaced
 pub mod Store
 pub mod Stores

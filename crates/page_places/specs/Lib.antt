@@ -7,6 +7,7 @@ pub mod Keys
 pub mod Names
 pub mod Placed
 pub mod Places
+pub mod Rooted
 pub mod Roots
 pub mod Stores
 pub mod TableChanges

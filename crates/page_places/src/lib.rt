@@ -15,10 +15,12 @@ mod errors;
 mod places;
 // Rowids that are free.
 mod rowids;
+// The tables of a store, each with its indexes (specs/Rooted.antt).
+mod tables;
 
 pub use errors::RowError;
 pub use failures::{error_of, error_of_row, error_of_walk};
 pub use names::find_name;
-pub use places::{IndexPlace, Place};
+pub use places::{IndexPlace, Place, StoreTable};
 pub use roots::{StoreRoots, TABLE_NAMES, find_roots, index_root, table_root};
 pub use rowids::free_rowid;

@@ -10,7 +10,7 @@ use Rattle.page_places.proofs.Failing.{memory_fails, row_fails, store_fails_late
 use Rattle.page_files.proofs.Steps.{writes_after}
 use Rattle.prof_store.specs.Schema.{schema_two, grp_at}
 use Rattle.page_changes.proofs.Clearing.{none_sought, sought_picked}
-use Rattle.page_changes.proofs.RemovalPlaces.{key_at, table_at}
+use Rattle.page_places.proofs.Showing.{table_at}
 use Rattle.page_changes.proofs.baselines.clear_baselines.Goals as goal
 
 -- memory may run out at any time, and the store may fail only where this is missing
@@ -30,7 +30,7 @@ returns-clause-done g c faithful = λ wanted known was now t writes holds roots.
     let old = c.args.file.now in
     let mid = c.rowids_where.new.file in
     let before = c.clear_all.ensures.keeps.stays.clean faithful in
-    let shows = table_at old writes holds 8 grp_at refl _ roots.groups (key_at old writes holds 9 _ refl refl _ roots.group_names refl, tt) in
+    let shows = table_at old writes holds 8 grp_at refl _ (c.place-place.ensures known grp_at (c.group_table-table.ensures known roots)) in
     let w = writes_after old mid c.rowids_where.ensures.reads before c.in-Ok.ensures.usable writes in
     let ids = c.as_slice.ensures.value ∙ c.in-Ok.ensures.done before schema_two wanted known was now grp_at shows in
     match_either c.clear_all.result _ _ _ (c.clear_all.ensures.done faithful wanted known was now t holds (record { writes = w; placed = shows.placed; indexed = shows.indexed }) (sought_picked c.args.run now _ ids))
@@ -40,5 +40,5 @@ pub returns-in-Err-clause-done : goal.returns-in-Err-clause-done
 returns-in-Err-clause-done g c faithful = λ wanted known was now t writes holds roots.
     let old = c.args.file.now in
     let new = c.rowids_where.new.file in
-    let shows = table_at old writes holds 8 grp_at refl _ roots.groups (key_at old writes holds 9 _ refl refl _ roots.group_names refl, tt) in
+    let shows = table_at old writes holds 8 grp_at refl _ (c.place-place.ensures known grp_at (c.group_table-table.ensures known roots)) in
     store_fails_later old old new _ (Keeps-refl (state old.pool)) (λ _. tt) (row_fails old new c.in-Err.error _ c.error_of_row.ensures (c.in-Err.ensures.done faithful schema_two wanted known was now grp_at shows))

@@ -6,7 +6,7 @@ use Rattle.sqlite_trees.specs.View.{IsShaped}
 use Rattle.sqlite_value.specs.declared.value.Value.TheVariants.{Int}
 use Rattle.prof_store.specs.Schema.{schema_two, grp_at}
 use Rattle.page_places.proofs.Groups.{group_behind}
-use Rattle.page_changes.proofs.Places.{groups_at}
+use Rattle.page_places.proofs.Showing.{table_at}
 use Rattle.page_places.specs.Failures.{FailsToStore}
 use Rattle.page_places.proofs.Failing.{memory_fails}
 use Rattle.page_places.specs.Places.{indexes_of}
@@ -19,7 +19,7 @@ pub returns-clause-done : goal.returns-clause-done
 returns-clause-done g c clean = λ wanted known was now t writes holds are none.
     let name = c.args.name.now in
     let id = next_rowid (now 19) in
-    let shows = groups_at c.args.file.now writes holds c.args.roots.now are _ _ refl refl refl refl in
+    let shows = table_at c.args.file.now writes holds 8 grp_at refl _ (c.place.ensures known grp_at (c.group_table.ensures known are)) in
     match_result c.put_behind.result (λ h. (
       h.next,
       h.writes,

@@ -6,7 +6,7 @@ use Rattle.sqlite_trees.specs.View.{IsShaped}
 use Rattle.sqlite_value.specs.declared.value.Value.TheVariants.{Int}
 use Rattle.prof_store.specs.Schema.{schema_two, member_at}
 use Rattle.page_places.proofs.Members.{member_behind}
-use Rattle.page_changes.proofs.Places.{members_at}
+use Rattle.page_places.proofs.Showing.{table_at}
 use Rattle.page_places.specs.Failures.{FailsToStore}
 use Rattle.page_places.proofs.Failing.{memory_fails}
 use Rattle.page_places.specs.Places.{indexes_of}
@@ -20,7 +20,7 @@ returns-clause-done g c clean = λ wanted known was now t writes holds are can.
     let name = c.args.name.now in
     let run = c.args.run in
     let id = next_rowid (now 21) in
-    let shows = members_at c.args.file.now writes holds c.args.roots.now are _ _ refl refl refl refl in
+    let shows = table_at c.args.file.now writes holds 9 member_at refl _ (c.place.ensures known member_at (c.member_table.ensures known are)) in
     match_result c.put_behind.result (λ h. (
       h.next,
       h.writes,

@@ -3,14 +3,14 @@ use Rattle.sqlite_trees.specs.declared.store.Shape.TheVariants as shape
 use Rattle.sqlite_trees.specs.View.{IsShaped}
 use Rattle.prof_store.specs.Schema.{schema_two, grp_at}
 use Rattle.page_places.proofs.OneLine.{group_removed}
-use Rattle.page_changes.proofs.Places.{groups_at}
+use Rattle.page_places.proofs.Showing.{table_at}
 use Rattle.page_places.proofs.Outcomes.{match_result}
 use Rattle.page_changes.proofs.rows.erase_group.Goals as goal
 
 pub returns-clause-done : goal.returns-clause-done
 returns-clause-done g c clean = λ wanted known was now t writes holds are none.
     let name = c.args.name.now in
-    let shows = groups_at c.args.file.now writes holds c.args.roots.now are _ _ refl refl refl refl in
+    let shows = table_at c.args.file.now writes holds 8 grp_at refl _ (c.place.ensures known grp_at (c.group_table.ensures known are)) in
     match_result c.erase_named.result (λ e.
     let h = e.rows in (
       h.next,

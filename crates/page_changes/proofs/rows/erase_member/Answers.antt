@@ -5,7 +5,7 @@ use Rattle.sqlite_trees.specs.View.{IsShaped}
 use Rattle.prof_store.specs.Schema.{schema_two, member_at}
 use Rattle.page_places.proofs.OneLine.{member_removed}
 use Rattle.page_changes.specs.Named.{named}
-use Rattle.page_changes.proofs.Places.{members_at}
+use Rattle.page_places.proofs.Showing.{table_at}
 use Rattle.page_places.proofs.Outcomes.{match_result}
 use Rattle.page_changes.proofs.rows.erase_member.Goals as goal
 
@@ -13,7 +13,7 @@ pub returns-clause-done : goal.returns-clause-done
 returns-clause-done g c clean = λ wanted known was now t writes holds are any.
     let name = c.args.name.now in
     let run = c.args.run in
-    let shows = members_at c.args.file.now writes holds c.args.roots.now are _ _ refl refl refl refl in
+    let shows = table_at c.args.file.now writes holds 9 member_at refl _ (c.place.ensures known member_at (c.member_table.ensures known are)) in
     match_result c.erase_named.result (λ e.
     let h = e.rows in
     let there = subst (λ n. Has (now 21) (named e.row.rowid name n)) e.found.is e.found.there in (

@@ -6,13 +6,13 @@ use Rattle.page_places.proofs.Members.{members_of_group_taken_out}
 use Rattle.page_places.proofs.Failing.{row_fails}
 use Rattle.page_changes.specs.Named.{is_of_name}
 use Rattle.page_changes.proofs.Naming.{same_text}
-use Rattle.page_changes.proofs.Places.{members_at}
+use Rattle.page_places.proofs.Showing.{table_at}
 use Rattle.page_changes.proofs.rows.erase_members.Goals as goal
 
 pub returns-in-Ok-clause-done : goal.returns-in-Ok-clause-done
 returns-in-Ok-clause-done g c faithful = λ wanted known was now t writes holds are any.
     let name = c.args.name.now in
-    let h = c.in-Ok.ensures.done faithful schema_two wanted known was now member_at (members_at c.args.file.now writes holds c.args.roots.now are _ _ refl refl refl refl) tt in (
+    let h = c.in-Ok.ensures.done faithful schema_two wanted known was now member_at (table_at c.args.file.now writes holds 9 member_at refl _ (c.place.ensures known member_at (c.member_table.ensures known are))) tt in (
       h.next,
       h.writes,
       members_of_group_taken_out t now h.next holds h.only (subst (IsShaped shape.Table) (sym h.rows_are) h.shaped) (λ r. not (is_of_name name r)) name h.rows_are (λ id m there. ap not (same_text m.group name)),
@@ -20,7 +20,7 @@ returns-in-Ok-clause-done g c faithful = λ wanted known was now t writes holds 
 
 pub returns-in-Err-clause-done : goal.returns-in-Err-clause-done
 returns-in-Err-clause-done g c faithful = λ wanted known was now t writes holds are any.
-    let shows = members_at c.args.file.now writes holds c.args.roots.now are _ _ refl refl refl refl in
+    let shows = table_at c.args.file.now writes holds 9 member_at refl _ (c.place.ensures known member_at (c.member_table.ensures known are)) in
     row_fails c.args.file.now c.erase_where.new.file c.in-Err.error _ c.error_of_row.ensures (c.in-Err.ensures.done faithful schema_two wanted known was now member_at shows tt)
 
 pub returns-in-Ok-clause-leaves : goal.returns-in-Ok-clause-leaves

@@ -9,7 +9,6 @@ use Rattle.sqlite_value.specs.Order.{Row}
 use Rattle.page_files.proofs.Steps.{writes_after}
 use Rattle.page_places.specs.Changes.{HasRows, KeepsEntries}
 use Rattle.page_places.specs.Places.{indexes_of}
-use Rattle.page_places.proofs.Outcomes.{table_shows}
 use Rattle.prof_store.specs.Schema.{schema_two, grp_at}
 use Rattle.prof_store.specs.Tables.{number, number_or_null}
 use Rattle.page_places.proofs.OneLine.{baseline_put}
@@ -17,7 +16,8 @@ use Rattle.page_places.proofs.Failing.{memory_fails, row_fails, store_fails_late
 use Rattle.page_changes.specs.Causes.{CanPutBaseline}
 use Rattle.page_changes.specs.Named.{IsFound, IsRowFound}
 use Rattle.page_changes.proofs.Failing.{not_sought}
-use Rattle.page_changes.proofs.Places.{groups_at, groups_shown}
+use Rattle.page_changes.proofs.Places.{groups_shown}
+use Rattle.page_places.proofs.Showing.{table_at}
 use Rattle.page_changes.proofs.rows.put_baseline.Goals as goal
 
 pub returns-in-Ok-clause-done : goal.returns-in-Ok-clause-done
@@ -27,8 +27,8 @@ returns-in-Ok-clause-done g c faithful = λ wanted known was now t writes holds 
     let name = c.args.name.now in
     let run = c.args.run in
     let before = c.replace.ensures.leaves.keeps.stays.clean faithful in
-    let shows = groups_at old writes holds c.args.roots.now are _ _ refl refl refl refl in
-    let at = table_shows old shows in
+    let shows = table_at old writes holds 8 grp_at refl _ (c.place.ensures known grp_at (c.group_table.ensures known are)) in
+    let at = groups_shown old writes holds c.args.roots.now are in
     let found = c.in_ok-row.ensures.found before (now 19) (record { wanted = wanted; t = 19; shows = at.0; rows_are = at.1 }) in
     let row = c.in-Some.row in
     let here = subst (IsFound c.as_bytes.result.now None (now 19)) c.in-Some.is found in
@@ -80,8 +80,8 @@ returns-clause-done g c faithful = λ wanted known was now t writes holds are he
     let name = c.args.name.now in
     let run = c.args.run in
     let before = c.replace.ensures.leaves.keeps.stays.clean faithful in
-    let shows = groups_at old writes holds c.args.roots.now are _ _ refl refl refl refl in
-    let at = table_shows old shows in
+    let shows = table_at old writes holds 8 grp_at refl _ (c.place.ensures known grp_at (c.group_table.ensures known are)) in
+    let at = groups_shown old writes holds c.args.roots.now are in
     let found = c.in_ok-row.ensures.found before (now 19) (record { wanted = wanted; t = 19; shows = at.0; rows_are = at.1 }) in
     let row = c.in-Some.row in
     let here = subst (IsFound c.as_bytes.result.now None (now 19)) c.in-Some.is found in

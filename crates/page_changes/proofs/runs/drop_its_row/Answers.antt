@@ -5,7 +5,7 @@ use Rattle.sqlite_trees.specs.View.{IsShaped}
 use Rattle.page_places.specs.Changes.{HasRows}
 use Rattle.prof_store.specs.Schema.{schema_two, run_at}
 use Rattle.page_places.proofs.Runs.{without_run_from}
-use Rattle.page_changes.proofs.RemovalPlaces.{key_at, table_at}
+use Rattle.page_places.proofs.Showing.{table_at}
 use Rattle.page_places.proofs.Failing.{row_fails}
 use Rattle.page_changes.proofs.runs.drop_its_row.Goals as goal
 
@@ -15,14 +15,14 @@ returns-in-Ok-clause-done g c faithful = λ wanted known was now t writes holds 
     let new = c.erase.new.file in
     let back : to_z w64 (of_z w64 c.from.result) ≡ c.from.result = search (rules, to_z-of_z) in
     let same : to_z w64 (of_z w64 c.from.result) ≡ pos c.args.run = back ∙ c.from.ensures in
-    let shows = table_at file writes holds 1 run_at refl _ roots.runs (key_at file writes holds 0 _ refl refl _ roots.run_digests refl, tt) in
+    let shows = table_at file writes holds 1 run_at refl _ (c.place.ensures known run_at (c.run_table.ensures known roots)) in
     let h = subst (λ z. HasRows schema_two wanted known was now run_at (without_rowid z (now 1)) new) same (c.in-Ok.ensures.done faithful schema_two wanted known was now run_at shows tt) in
     (h.next, h.writes, without_run_from c.args.run t now h.next holds h.only (subst (IsShaped shape.Table) (sym h.rows_are) h.shaped) h.rows_are)
 
 pub returns-in-Err-clause-done : goal.returns-in-Err-clause-done
 returns-in-Err-clause-done g c faithful = λ wanted known was now t writes holds roots.
     let file = c.args.file.now in
-    let shows = table_at file writes holds 1 run_at refl _ roots.runs (key_at file writes holds 0 _ refl refl _ roots.run_digests refl, tt) in
+    let shows = table_at file writes holds 1 run_at refl _ (c.place.ensures known run_at (c.run_table.ensures known roots)) in
     row_fails file c.erase.new.file c.in-Err.error _ c.error_of_row.ensures (c.in-Err.ensures.done faithful schema_two wanted known was now run_at shows tt)
 
 pub returns-in-Ok-clause-leaves : goal.returns-in-Ok-clause-leaves

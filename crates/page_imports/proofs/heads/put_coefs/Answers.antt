@@ -8,7 +8,8 @@ use Rattle.page_places.proofs.Outcomes.{match_result}
 use Rattle.page_imports.specs.Causes.{CanBePut}
 use Rattle.page_imports.proofs.Failing.{fails_for}
 use Rattle.page_imports.proofs.Kept.{filled_keeps}
-use Rattle.page_imports.proofs.Showing.{index_at, mapped_twice, table_at}
+use Rattle.page_imports.proofs.Mapped.{mapped_twice}
+use Rattle.page_places.proofs.Showing.{table_at}
 use Rattle.page_imports.proofs.heads.put_coefs.Goals as goal
 
 pub returns-clause-done : goal.returns-clause-done
@@ -16,7 +17,7 @@ returns-clause-done g c run clean = λ wanted known was t shows are can.
     let file = c.args.file.now in
     let lines = c.args.lines.now in
     let now = shows.next in
-    let at = table_at file shows.writes shows.holds 4 coef_at refl _ are.coefs (index_at file shows.writes shows.holds 5 _ refl refl _ are.coef_keys refl, tt) in
+    let at = table_at file shows.writes shows.holds 4 coef_at refl _ (c.place.ensures known coef_at (c.coef_table.ensures known are)) in
     let columns = mapped_twice coef_columns coef_row lines in
     match_result c.fill.result (λ made. record {
       shows = record {

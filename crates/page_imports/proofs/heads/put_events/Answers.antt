@@ -8,7 +8,8 @@ use Rattle.page_places.proofs.Outcomes.{match_result}
 use Rattle.page_imports.specs.Causes.{CanBePut}
 use Rattle.page_imports.proofs.Failing.{fails_for}
 use Rattle.page_imports.proofs.Kept.{filled_keeps}
-use Rattle.page_imports.proofs.Showing.{index_at, mapped_twice, table_at}
+use Rattle.page_imports.proofs.Mapped.{mapped_twice}
+use Rattle.page_places.proofs.Showing.{table_at}
 use Rattle.page_imports.proofs.heads.put_events.Goals as goal
 
 pub returns-clause-done : goal.returns-clause-done
@@ -16,7 +17,7 @@ returns-clause-done g c run clean = λ wanted known was t shows are can.
     let file = c.args.file.now in
     let lines = c.args.lines.now in
     let now = shows.next in
-    let at = table_at file shows.writes shows.holds 2 run_event_at refl _ are.events (index_at file shows.writes shows.holds 1 _ refl refl _ are.event_places refl, (index_at file shows.writes shows.holds 2 _ refl refl _ are.event_names refl, tt)) in
+    let at = table_at file shows.writes shows.holds 2 run_event_at refl _ (c.place.ensures known run_event_at (c.event_table.ensures known are)) in
     let columns = mapped_twice event_columns event_row lines in
     match_result c.fill.result (λ made. record {
       shows = record {

@@ -13,7 +13,8 @@ use Rattle.page_places.proofs.Failing.{memory_fails, row_fails}
 use Rattle.page_imports.specs.Causes.{CanBeWritten}
 use Rattle.page_imports.proofs.Failing.{fails_for}
 use Rattle.page_imports.proofs.Kept.{changed_keeps}
-use Rattle.page_imports.proofs.Showing.{next_put, table_at}
+use Rattle.page_imports.proofs.Mapped.{next_put}
+use Rattle.page_places.proofs.Showing.{table_at}
 use Rattle.sqlite_pool.specs.StoredLaws.{Keeps-refl}
 use Rattle.page_imports.proofs.heads.put_next.Goals as goal
 
@@ -23,7 +24,7 @@ returns-in-Ok-clause-done g c clean = λ wanted known was t shows are above.
     let now = shows.next in
     let rows : now 0 ≡ meta_columns t.next ∷ [] = shows.holds.contain.contents_are.0.rows_are in
     let there = subst (λ l. Has l (meta_columns t.next)) (sym rows) (inl refl) in
-    let made = c.in-Ok.ensures.done clean schema_two wanted known was now meta_at (table_at c.args.file.now shows.writes shows.holds 0 meta_at refl _ are.meta tt) (Null ∷ number 2 ∷ number t.next ∷ [], there, tt) in
+    let made = c.in-Ok.ensures.done clean schema_two wanted known was now meta_at (table_at c.args.file.now shows.writes shows.holds 0 meta_at refl _ (record { root = are.meta; keys = tt })) (Null ∷ number 2 ∷ number t.next ∷ [], there, tt) in
     let is : made.next 0 ≡ meta_columns n ∷ [] = made.rows_are ∙ ap (λ l. put_row (number 1 ∷ l) (now 0)) c.in_ok-columns.ensures ∙ ap (put_row (meta_columns n)) rows ∙ next_put t.next n in
     record {
       shows = record { next = made.next; writes = made.writes; holds = next_replaced t now made.next shows.holds made.only (subst (IsShaped shape.Table) (sym made.rows_are) made.shaped) n is above };
@@ -37,7 +38,7 @@ returns-clause-done g c clean = λ wanted known was t shows are above.
     let now = shows.next in
     let rows : now 0 ≡ meta_columns t.next ∷ [] = shows.holds.contain.contents_are.0.rows_are in
     let there = subst (λ l. Has l (meta_columns t.next)) (sym rows) (inl refl) in
-    let failed = c.in-Err.ensures.done clean schema_two wanted known was now meta_at (table_at file shows.writes shows.holds 0 meta_at refl _ are.meta tt) (Null ∷ number 2 ∷ number t.next ∷ [], there, tt) in
+    let failed = c.in-Err.ensures.done clean schema_two wanted known was now meta_at (table_at file shows.writes shows.holds 0 meta_at refl _ (record { root = are.meta; keys = tt })) (Null ∷ number 2 ∷ number t.next ∷ [], there, tt) in
     fails_for file new _ (λ (can : CanBeWritten meta_at (meta_columns c.args.next)). subst (λ l. IsStorableRow 0 (number 1 ∷ l)) (sym c.in_ok-columns.ensures) can.row)
     (row_fails file new c.in-Err.error _ c.error_of_row.ensures failed)
 

@@ -20,7 +20,7 @@ use Rattle.page_imports.specs.Causes.{CanBeWritten}
 use Rattle.page_imports.proofs.Failing.{fails_for}
 use Rattle.page_imports.proofs.Kept.{changed_keeps}
 use Rattle.page_imports.proofs.Runs.{none_equal}
-use Rattle.page_imports.proofs.Showing.{index_at, table_at}
+use Rattle.page_places.proofs.Showing.{table_at}
 use Rattle.sqlite_pool.specs.StoredLaws.{Keeps-refl}
 use Rattle.page_imports.proofs.heads.put_run_row.Goals as goal
 
@@ -32,7 +32,7 @@ returns-in-Ok-clause-done g c clean = λ wanted known was t shows are can.
     let id : to_z w64 (of_z w64 c.from.result) ≡ pos run.number = search rules in
     let below = subst (AllByRecursion (λ r. value_cmp (rowid r) (number run.number) ≡ Less)) (sym (runs_there t now shows.holds)) (runs_below t.runs run.number can.above) in
     let above = subst (λ z. AreBelow (Int z) (now 1)) (sym id) below in
-    let at = table_at file shows.writes shows.holds 1 run_at refl _ are.runs (index_at file shows.writes shows.holds 0 _ refl refl _ are.run_digests refl, tt) in
+    let at = table_at file shows.writes shows.holds 1 run_at refl _ (c.place.ensures known run_at (c.run_table.ensures known are)) in
     let made = c.in-Ok.ensures.done clean schema_two wanted known was now run_at at above in
     let behind : made.next 1 ≡ now 1 ++ run_columns run ∷ [] = made.rows_are ∙ ap (λ z. now 1 ++ (Int z ∷ c.in_ok-columns.columns) ∷ []) id ∙ ap (λ l. now 1 ++ (number run.number ∷ l) ∷ []) c.in_ok-columns.ensures in
     record {
@@ -49,7 +49,7 @@ returns-clause-done g c clean = λ wanted known was t shows are can.
     let id : to_z w64 (of_z w64 c.from.result) ≡ pos run.number = search rules in
     let below = subst (AllByRecursion (λ r. value_cmp (rowid r) (number run.number) ≡ Less)) (sym (runs_there t now shows.holds)) (runs_below t.runs run.number can.above) in
     let above = subst (λ z. AreBelow (Int z) (now 1)) (sym id) below in
-    let at = table_at file shows.writes shows.holds 1 run_at refl _ are.runs (index_at file shows.writes shows.holds 0 _ refl refl _ are.run_digests refl, tt) in
+    let at = table_at file shows.writes shows.holds 1 run_at refl _ (c.place.ensures known run_at (c.run_table.ensures known are)) in
     let failed = c.in-Err.ensures.done clean schema_two wanted known was now run_at at above in
     let is = ap (λ z. Int z ∷ c.in_ok-columns.columns) id ∙ ap (λ l. number run.number ∷ l) c.in_ok-columns.ensures in
     fails_for file new _ (λ (can : CanBeWritten run_at (run_columns run)). (subst (IsStorableRow 0) (sym is) can.row, subst (λ l. AreStorable l (indexes_of schema_two run_at)) (sym is) can.entries))

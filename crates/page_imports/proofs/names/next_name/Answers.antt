@@ -19,7 +19,7 @@ use Rattle.page_places.proofs.Outcomes.{numbered_next}
 use Rattle.prof_store.specs.Schema.{schema_two, name_at}
 use Rattle.page_imports.proofs.Numbers.{next_rowid_is}
 use Rattle.page_imports.specs.Causes.{AreNarrow}
-use Rattle.page_imports.proofs.Showing.{index_at, table_at}
+use Rattle.page_places.proofs.Showing.{table_at}
 use Rattle.page_imports.proofs.Small.{next_is_small}
 use Rattle.page_imports.proofs.names.next_name.Goals as goal
 
@@ -28,7 +28,7 @@ returns-in-Ok-try_from-clause-told g c =
     let same : to_z w64 (of_z w64 c.in-Ok.rowid) ≡ c.in-Ok.rowid = search (rules, to_z-of_z) in
     λ clean wanted known was t shows are.
     let file = c.args.file.now in
-    let at = table_at file shows.writes shows.holds 5 name_at refl _ are.names (index_at file shows.writes shows.holds 6 _ refl refl _ are.name_bytes refl, tt) in
+    let at = table_at file shows.writes shows.holds 5 name_at refl _ (c.place.ensures known name_at (c.name_table.ensures known are)) in
     let told = c.in-Ok.ensures.done clean schema_two wanted known was shows.next name_at at in
     c.in-Ok-try_from.ensures.1 ∙ ap nat_abs (same ∙ told.0 ∙ next_rowid_is t shows.next shows.holds)
 
@@ -47,7 +47,7 @@ pub returns-in-Err-clause-told : goal.returns-in-Err-clause-told
 returns-in-Err-clause-told g c clean = λ wanted known was t shows are.
     let file = c.args.file.now in
     let new = c.free_rowid.new.file in
-    let at = table_at file shows.writes shows.holds 5 name_at refl _ are.names (index_at file shows.writes shows.holds 6 _ refl refl _ are.name_bytes refl, tt) in
+    let at = table_at file shows.writes shows.holds 5 name_at refl _ (c.place.ensures known name_at (c.name_table.ensures known are)) in
     not_numbered file new t (shows.next 11) c.in-Err.error _ (next_rowid_is t shows.next shows.holds) c.error_of_row.ensures c.free_rowid.ensures.reads.keeps shows.writes.is_open clean
     (c.in-Err.ensures.done clean schema_two wanted known was shows.next name_at at)
 
@@ -56,7 +56,7 @@ returns-in-Err-try_from-clause-told g c =
     let same : to_z w64 (of_z w64 c.in-Ok.rowid) ≡ c.in-Ok.rowid = search (rules, to_z-of_z) in
     λ clean wanted known was t shows are.
     let file = c.args.file.now in
-    let at = table_at file shows.writes shows.holds 5 name_at refl _ are.names (index_at file shows.writes shows.holds 6 _ refl refl _ are.name_bytes refl, tt) in
+    let at = table_at file shows.writes shows.holds 5 name_at refl _ (c.place.ensures known name_at (c.name_table.ensures known are)) in
     let told = c.in-Ok.ensures.done clean schema_two wanted known was shows.next name_at at in
     let is = same ∙ told.0 ∙ next_rowid_is t shows.next shows.holds in
     let no : ⊥ = grind (arith, ints, is, c.in-Err-try_from.ensures) in

@@ -8,7 +8,8 @@ use Rattle.page_places.proofs.Outcomes.{match_result}
 use Rattle.page_imports.specs.Causes.{CanBePut}
 use Rattle.page_imports.proofs.Failing.{fails_for}
 use Rattle.page_imports.proofs.Kept.{filled_keeps}
-use Rattle.page_imports.proofs.Showing.{index_at, mapped_twice, table_at}
+use Rattle.page_imports.proofs.Mapped.{mapped_twice}
+use Rattle.page_places.proofs.Showing.{table_at}
 use Rattle.page_imports.proofs.names.put_names.Goals as goal
 
 pub returns-clause-done : goal.returns-clause-done
@@ -16,7 +17,7 @@ returns-clause-done g c clean = λ wanted known was t shows are unheld.
     let file = c.args.file.now in
     let news = c.args.news.now in
     let now = shows.next in
-    let at = table_at file shows.writes shows.holds 5 name_at refl _ are.names (index_at file shows.writes shows.holds 6 _ refl refl _ are.name_bytes refl, tt) in
+    let at = table_at file shows.writes shows.holds 5 name_at refl _ (c.place.ensures known name_at (c.name_table.ensures known are)) in
     let columns = mapped_twice name_line (λ (new : NewName). new.name.now) news in
     match_result c.fill.result (λ made. record {
       shows = record {

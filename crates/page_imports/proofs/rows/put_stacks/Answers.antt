@@ -12,7 +12,8 @@ use Rattle.page_places.proofs.Outcomes.{match_result}
 use Rattle.page_imports.specs.Causes.{CanBePut, CanPutStacks}
 use Rattle.page_imports.proofs.Failing.{fails_for, refuses_fails}
 use Rattle.page_imports.proofs.Kept.{filled_keeps}
-use Rattle.page_imports.proofs.Showing.{index_at, mapped_twice, table_at}
+use Rattle.page_imports.proofs.Mapped.{mapped_twice}
+use Rattle.page_places.proofs.Showing.{table_at}
 use Rattle.sqlite_pool.specs.StoredLaws.{Keeps-refl}
 use Rattle.page_imports.proofs.rows.put_stacks.Goals as goal
 
@@ -23,7 +24,7 @@ returns-clause-done g c clean = λ wanted known was t shows are can.
     let lines = c.in_ok-lines.lines.items in
     let news = stack_rows run (content_of c.args.rows.now).stacks in
     let now = shows.next in
-    let at = table_at file shows.writes shows.holds 7 stack_at refl _ are.stacks (index_at file shows.writes shows.holds 8 _ refl refl _ are.stack_frames refl, tt) in
+    let at = table_at file shows.writes shows.holds 7 stack_at refl _ (c.place.ensures known stack_at (c.stack_table.ensures known are)) in
     let columns = ap (map (λ line. stack_columns (stack_row line))) c.deref.ensures.value ∙ mapped_twice stack_columns stack_row lines ∙ ap (map stack_columns) c.in_ok-lines.ensures.value in
     match_result c.fill.result (λ made. record {
       shows = record {

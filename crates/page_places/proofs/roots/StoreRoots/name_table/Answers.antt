@@ -1,0 +1,11 @@
+use Rattle.std.proofs.Common.{sym, subst, ◌∙◌}
+use Rattle.prof_store.specs.Schema.{schema_two, name_at}
+use Rattle.page_places.specs.Places.{indexes_of}
+use Rattle.page_places.specs.Rooted.{AreKeys}
+use Rattle.page_places.proofs.roots.StoreRoots.name_table.Goals as goal
+
+pub returns : goal.returns
+returns c known are = record {
+  root = c.with_key.ensures.root ∙ are.names;
+  keys = subst (λ keys. AreKeys known keys (indexes_of schema_two name_at)) (sym c.with_key.ensures.keys) (record { root = c.key.ensures.root ∙ are.name_bytes; columns = c.key.ensures.columns }, tt);
+}
