@@ -5,6 +5,7 @@ pub mod Kept
 pub mod Made
 pub mod Named
 pub mod Numbers
+pub mod Put
 pub mod Results
 pub mod Runs
 pub mod Mapped

@@ -1,17 +1,15 @@
-use Rattle.std.proofs.Common.{map, refl, subst, sym, ap, ◌∙◌}
+use Rattle.std.proofs.Common.{map, refl, ap, ◌∙◌}
 use Rattle.std.proofs.lemmas.Result.{IfOk-from_err, err_from_is_err_and}
 use Rattle.cost_rows.specs.Rows.{content_of}
-use Rattle.line_fills.specs.Filled.{IsTableFilled}
 use Rattle.line_fills.proofs.Held.{stacks_filled}
 use Rattle.run_stores.specs.Files.{stack_rows}
 use Rattle.run_stores.proofs.Rows.{stacks_of_run}
 use Rattle.prof_store.specs.Lines.{stack_row}
 use Rattle.prof_store.specs.Schema.{schema_two, stack_at}
 use Rattle.prof_store.specs.Tables.{stack_columns}
-use Rattle.page_places.proofs.Outcomes.{match_result}
-use Rattle.page_imports.specs.Causes.{CanBePut, CanPutStacks}
-use Rattle.page_imports.proofs.Failing.{fails_for, refuses_fails}
-use Rattle.page_imports.proofs.Kept.{filled_keeps}
+use Rattle.page_imports.specs.Causes.{CanPutStacks}
+use Rattle.page_imports.proofs.Failing.{refuses_fails}
+use Rattle.page_imports.proofs.Put.{lines_put}
 use Rattle.page_imports.proofs.Mapped.{mapped_twice}
 use Rattle.page_places.proofs.Showing.{table_at}
 use Rattle.sqlite_pool.specs.StoredLaws.{Keeps-refl}
@@ -26,15 +24,7 @@ returns-clause-done g c clean = λ wanted known was t shows are can.
     let now = shows.next in
     let at = table_at file shows.writes shows.holds 7 stack_at refl _ (c.place.ensures known stack_at (c.stack_table.ensures known are)) in
     let columns = ap (map (λ line. stack_columns (stack_row line))) c.deref.ensures.value ∙ mapped_twice stack_columns stack_row lines ∙ ap (map stack_columns) c.in_ok-lines.ensures.value in
-    match_result c.fill.result (λ made. record {
-      shows = record {
-        next = made.next;
-        writes = made.writes;
-        holds = stacks_filled t now made.next shows.holds run can.held news (record { of_run = stacks_of_run run (content_of c.args.rows.now).stacks; none = can.none }) (subst (IsTableFilled schema_two now made.next stack_at) columns made.filled);
-      };
-      kept = filled_keeps stack_at now made.next refl made.filled.spared;
-    })
-    (λ e. fails_for file c.fill.new.file e (λ (can : CanPutStacks run (content_of c.args.rows.now).stacks now). subst (λ l. CanBePut stack_at l now) (sym columns) can.put))
+    lines_put file c.fill.new.file shows stack_at refl c.fill.result columns (λ next. stacks_filled t now next shows.holds run can.held news (record { of_run = stacks_of_run run (content_of c.args.rows.now).stacks; none = can.none })) (λ (can : CanPutStacks run (content_of c.args.rows.now).stacks now). can.put)
     (c.fill.ensures.done clean schema_two wanted known was now stack_at at)
 
 pub returns-in_err-lines-clause-done : goal.returns-in_err-lines-clause-done
