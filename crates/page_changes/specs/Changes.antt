@@ -36,10 +36,10 @@ module _ {D : Type 0} {g : Ghosts D} where
       → OnOk result ((next : Trees) × Writes wanted known db next new × Holds (change t) next)
 
   -- the same within a transaction, for tables of which a fact holds; or there is a cause, where this may be missing
-  abbrev pub MakesWithin : PageFile D g → PageFile D g → StoreRoots → (Tables → Type 0) → (Tables → Tables) → (Trees → Type 0) → {A : Type 0} → Result A StoreError → Type 0
+  abbrev pub MakesWithin : PageFile D g → PageFile D g → StoreRoots → (Tables → Type 0) → (Tables → Tables) → (Tables → Trees → Type 0) → {A : Type 0} → Result A StoreError → Type 0
   MakesWithin old new roots Fact change Can result =
       IsFaithful new → (wanted : List Wanted) (known : List ℕ) (was now : Trees) (t : Tables) → Writes wanted known was now old → Holds t now → AreRoots known roots → Fact t
-      → MatchResult result (λ _. (next : Trees) × Writes wanted known was next new × Holds (change t) next) (FailsToStore old new (Can now))
+      → MatchResult result (λ _. (next : Trees) × Writes wanted known was next new × Holds (change t) next) (FailsToStore old new (Can t now))
 
   module _ (old new : PageFile D g) where
     -- the table at this place has a row of these columns behind the others, or there is a cause

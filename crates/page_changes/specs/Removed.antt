@@ -88,12 +88,6 @@ module _ {D : Type 0} {g : Ghosts D} (old new : PageFile D g) where
       IsFaithful new → (wanted : List Wanted) (known : List ℕ) (db : Trees) (t : Tables) → Rests wanted known db old → Holds t db → AreListed t lists
       → MatchResult result (λ _. (next : Trees) × Writes wanted known db next new × Holds (without_run run t) next) (FailsToStore old new (CanDrop run t))
 
-  -- within a transaction that holds tables, under these roots, it holds the changed tables; or there is a cause, where this may be missing
-  abbrev pub DropsWithin : StoreRoots → (Tables → Tables) → (Tables → Type 0) → {A : Type 0} → Result A StoreError → Type 0
-  DropsWithin roots change Can result =
-      IsFaithful new → (wanted : List Wanted) (known : List ℕ) (was now : Trees) (t : Tables) → Writes wanted known was now old → Holds t now → AreRoots known roots
-      → MatchResult result (λ _. (next : Trees) × Writes wanted known was next new × Holds (change t) next) (FailsToStore old new (Can t))
-
   -- the rows of a run are gone from the table at this place, or the pages were not read or written for a cause
   abbrev pub ErasesRun : Place → ℕ → {A : Type 0} → Result A StoreError → Type 0
   ErasesRun place run result =

@@ -6,7 +6,8 @@ ghost use Rattle.sqlite_record.specs.Record.{decode};
 ghost use Rattle.sqlite_value.specs.declared.value.Value.TheVariants.{Text, Null};
 ghost use Rattle.prof_store.specs.Tables.{number};
 ghost use Rattle.page_files.specs.Files.{IsUsable, LeavesUsable};
-ghost use Rattle.page_changes.specs.Removed.{ClearsAll, ClearsOne, DropsWithin, IsNoBaseline, without_baselines};
+ghost use Rattle.page_changes.specs.Changes.{MakesWithin};
+ghost use Rattle.page_changes.specs.Removed.{Anything, ClearsAll, ClearsOne, IsNoBaseline, without_baselines};
 
 use crate::members::OfRun;
 use page_files::PageFile;
@@ -98,7 +99,7 @@ pub(crate) fn clear_baselines<D: Disk>(
     roots: &StoreRoots,
     run: u32,
 ) -> Result<(), StoreError>
-    ensures done { DropsWithin file.old file.new roots.now (without_baselines run) (IsNoBaseline run) result }
+    ensures done { MakesWithin file.old file.new roots.now Anything (without_baselines run) (λ t _. IsNoBaseline run t) result }
     ensures leaves { LeavesUsable file.old file.new result }
 {
     let table = roots.group_table();

@@ -1,6 +1,8 @@
 // The rows of a run in one table.
+ghost use Rattle.std.specs.Prelude.{⊤};
 ghost use Rattle.page_files.specs.Files.{LeavesUsable};
-ghost use Rattle.page_changes.specs.Removed.{Anything, DropsWithin, ErasesRun, without_costs, without_events};
+ghost use Rattle.page_changes.specs.Changes.{MakesWithin};
+ghost use Rattle.page_changes.specs.Removed.{Anything, ErasesRun, without_costs, without_events};
 
 use page_files::PageFile;
 use page_places::{Place, StoreRoots, error_of_row};
@@ -32,7 +34,7 @@ pub(crate) fn drop_events<D: Disk>(
     roots: &StoreRoots,
     run: u32,
 ) -> Result<(), StoreError>
-    ensures done { DropsWithin file.old file.new roots.now (without_events run) Anything result }
+    ensures done { MakesWithin file.old file.new roots.now Anything (without_events run) (λ _ _. ⊤) result }
     ensures leaves { LeavesUsable file.old file.new result }
 {
     erase_run(file, alloc, &roots.event_table().place(), run)?;
@@ -47,7 +49,7 @@ pub(crate) fn drop_costs<D: Disk>(
     roots: &StoreRoots,
     run: u32,
 ) -> Result<(), StoreError>
-    ensures done { DropsWithin file.old file.new roots.now (without_costs run) Anything result }
+    ensures done { MakesWithin file.old file.new roots.now Anything (without_costs run) (λ _ _. ⊤) result }
     ensures leaves { LeavesUsable file.old file.new result }
 {
     erase_run(file, alloc, &roots.cell_table().place(), run)?;

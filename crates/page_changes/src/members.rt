@@ -1,6 +1,8 @@
 // The memberships of a run.
+ghost use Rattle.std.specs.Prelude.{⊤};
 ghost use Rattle.page_files.specs.Files.{LeavesUsable};
-ghost use Rattle.page_changes.specs.Removed.{Anything, DropsWithin, without_memberships};
+ghost use Rattle.page_changes.specs.Changes.{MakesWithin};
+ghost use Rattle.page_changes.specs.Removed.{Anything, without_memberships};
 
 use page_files::PageFile;
 use page_places::{StoreRoots, error_of_row};
@@ -40,7 +42,7 @@ pub(crate) fn drop_members<D: Disk>(
     roots: &StoreRoots,
     run: u32,
 ) -> Result<(), StoreError>
-    ensures done { DropsWithin file.old file.new roots.now (without_memberships run) Anything result }
+    ensures done { MakesWithin file.old file.new roots.now Anything (without_memberships run) (λ _ _. ⊤) result }
     ensures leaves { LeavesUsable file.old file.new result }
 {
     match erase_where(file, alloc, &roots.member_table().place(), &OfRun(run)) {

@@ -63,7 +63,7 @@ pub(crate) fn add_member<D: Disk>(
     name: &str,
     run: u32,
 ) -> Result<(), StoreError>
-    ensures done { MakesWithin file.old file.new roots.now (CanJoin name.now run) (with_member name.now run) (HasRoomForMember name.now run) result }
+    ensures done { MakesWithin file.old file.new roots.now (CanJoin name.now run) (with_member name.now run) (λ _. HasRoomForMember name.now run) result }
     ensures leaves { LeavesUsable file.old file.new result }
 {
     let columns = named_columns(alloc, name, Some(run))?;
@@ -77,7 +77,7 @@ pub(crate) fn add_group<D: Disk>(
     roots: &StoreRoots,
     name: &str,
 ) -> Result<(), StoreError>
-    ensures done { MakesWithin file.old file.new roots.now (λ t. has_group t name.now ≡ false) (with_group name.now) (HasRoomForGroup name.now) result }
+    ensures done { MakesWithin file.old file.new roots.now (λ t. has_group t name.now ≡ false) (with_group name.now) (λ _. HasRoomForGroup name.now) result }
     ensures leaves { LeavesUsable file.old file.new result }
 {
     let columns = named_columns(alloc, name, None)?;
@@ -113,7 +113,7 @@ pub(crate) fn erase_member<D: Disk>(
     run: u32,
 ) -> Result<(), StoreError>
     ensures done { MakesWithin file.old file.new roots.now (λ _. ⊤) (without_member name.now run)
-        (λ now. CanBeFound name.now (Some run) (now member_at.tree)) result }
+        (λ _ now. CanBeFound name.now (Some run) (now member_at.tree)) result }
     ensures leaves { LeavesUsable file.old file.new result }
 {
     erase_named(file, alloc, &roots.member_table().place(), name, Some(run))
@@ -127,7 +127,7 @@ pub(crate) fn put_baseline<D: Disk>(
     name: &str,
     run: u32,
 ) -> Result<(), StoreError>
-    ensures done { MakesWithin file.old file.new roots.now (λ t. has_run t run ≡ true) (with_baseline name.now run) (CanPutBaseline name.now run) result }
+    ensures done { MakesWithin file.old file.new roots.now (λ t. has_run t run ≡ true) (with_baseline name.now run) (λ _. CanPutBaseline name.now run) result }
     ensures leaves { LeavesUsable file.old file.new result }
 {
     let columns = named_columns(alloc, name, Some(run))?;
@@ -170,7 +170,7 @@ pub(crate) fn erase_members<D: Disk>(
     roots: &StoreRoots,
     name: &str,
 ) -> Result<(), StoreError>
-    ensures done { MakesWithin file.old file.new roots.now (λ _. ⊤) (without_members name.now) (λ _. ⊤) result }
+    ensures done { MakesWithin file.old file.new roots.now (λ _. ⊤) (without_members name.now) (λ _ _. ⊤) result }
     ensures leaves { LeavesUsable file.old file.new result }
 {
     match erase_where(file, alloc, &roots.member_table().place(), &OfName(name)) {
@@ -187,7 +187,7 @@ pub(crate) fn erase_group<D: Disk>(
     name: &str,
 ) -> Result<(), StoreError>
     ensures done { MakesWithin file.old file.new roots.now (HasNoMember name.now) (without_named name.now)
-        (λ now. CanBeFound name.now None (now grp_at.tree)) result }
+        (λ _ now. CanBeFound name.now None (now grp_at.tree)) result }
     ensures leaves { LeavesUsable file.old file.new result }
 {
     erase_named(file, alloc, &roots.group_table().place(), name, None)

@@ -26,7 +26,7 @@ pub returns-clause-leaves : goal.returns-clause-leaves
 returns-clause-leaves g c = record { usable = c.clear_all.ensures.usable c.in-Ok.ensures.usable; keeps = Keeps-trans _ _ _ c.rowids_where.ensures.reads.keeps c.clear_all.ensures.keeps }
 
 pub returns-clause-done : goal.returns-clause-done
-returns-clause-done g c faithful = λ wanted known was now t writes holds roots.
+returns-clause-done g c faithful = λ wanted known was now t writes holds roots any.
     let old = c.args.file.now in
     let mid = c.rowids_where.new.file in
     let before = c.clear_all.ensures.keeps.stays.clean faithful in
@@ -37,7 +37,7 @@ returns-clause-done g c faithful = λ wanted known was now t writes holds roots.
     (λ e some. either old c.clear_all.new.file e (λ none. none_sought c.args.run t now _ holds ids none some)) c.clear_all.ensures.some
 
 pub returns-in-Err-clause-done : goal.returns-in-Err-clause-done
-returns-in-Err-clause-done g c faithful = λ wanted known was now t writes holds roots.
+returns-in-Err-clause-done g c faithful = λ wanted known was now t writes holds roots any.
     let old = c.args.file.now in
     let new = c.rowids_where.new.file in
     let shows = table_at old writes holds 8 grp_at refl _ (c.place-place.ensures known grp_at (c.group_table-table.ensures known roots)) in

@@ -15,7 +15,7 @@ pub returns-clause-leaves : goal.returns-clause-leaves
 returns-clause-leaves g c = record { usable = c.erase_run-3.ensures.leaves.usable; keeps = Keeps-trans _ _ _ (Keeps-trans _ _ _ c.erase_run.ensures.leaves.keeps c.erase_run-2.ensures.leaves.keeps) c.erase_run-3.ensures.leaves.keeps }
 
 pub returns-clause-done : goal.returns-clause-done
-returns-clause-done g c faithful = λ wanted known was now t writes holds roots.
+returns-clause-done g c faithful = λ wanted known was now t writes holds roots any.
     let n = c.args.run in
     let after_two = c.erase_run-3.ensures.leaves.keeps.stays.clean faithful in
     let after_one = c.erase_run-2.ensures.leaves.keeps.stays.clean after_two in
@@ -33,14 +33,14 @@ returns-clause-done g c faithful = λ wanted known was now t writes holds roots.
     ((2 ∷ [], refl), tt))))
 
 pub returns-in_err-erase_run-clause-done : goal.returns-in_err-erase_run-clause-done
-returns-in_err-erase_run-clause-done g c faithful = λ wanted known was now t writes holds roots.
+returns-in_err-erase_run-clause-done g c faithful = λ wanted known was now t writes holds roots any.
     let p = err_from_is_err_and c.from_residual.result c.from_residual.ensures.1 in
     rw (p.1, p.2) (c.in_err-erase_run.ensures.done faithful schema_two wanted known was now thread_cell_at
     (table_at c.args.file.now writes holds 10 thread_cell_at refl _ (c.place.ensures known thread_cell_at (c.cell_table.ensures known roots)))
     ((5 ∷ 6 ∷ 4 ∷ 3 ∷ 2 ∷ 7 ∷ [], refl), tt))
 
 pub returns-in_err-erase_run-2-clause-done : goal.returns-in_err-erase_run-2-clause-done
-returns-in_err-erase_run-2-clause-done g c faithful = λ wanted known was now t writes holds roots.
+returns-in_err-erase_run-2-clause-done g c faithful = λ wanted known was now t writes holds roots any.
     let n = c.args.run in
     let after_one = c.erase_run-2.ensures.leaves.keeps.stays.clean faithful in
     let p = err_from_is_err_and c.from_residual-in_err-erase_run-2.result c.from_residual-in_err-erase_run-2.ensures.1 in

@@ -10,7 +10,7 @@ use Rattle.page_places.proofs.Failing.{row_fails}
 use Rattle.page_changes.proofs.members.drop_members.Goals as goal
 
 pub returns-in-Ok-clause-done : goal.returns-in-Ok-clause-done
-returns-in-Ok-clause-done g c faithful = λ wanted known was now t writes holds roots.
+returns-in-Ok-clause-done g c faithful = λ wanted known was now t writes holds roots any.
     let file = c.args.file.now in
     let h = c.in-Ok.ensures.done faithful schema_two wanted known was now member_at
     (table_at file writes holds 9 member_at refl _ (c.place.ensures known member_at (c.member_table.ensures known roots))) tt in (
@@ -20,7 +20,7 @@ returns-in-Ok-clause-done g c faithful = λ wanted known was now t writes holds 
     )
 
 pub returns-in-Err-clause-done : goal.returns-in-Err-clause-done
-returns-in-Err-clause-done g c faithful = λ wanted known was now t writes holds roots.
+returns-in-Err-clause-done g c faithful = λ wanted known was now t writes holds roots any.
     let file = c.args.file.now in
     row_fails file c.erase_where.new.file c.in-Err.error _ c.error_of_row.ensures (c.in-Err.ensures.done faithful schema_two wanted known was now member_at
     (table_at file writes holds 9 member_at refl _ (c.place.ensures known member_at (c.member_table.ensures known roots))) tt)

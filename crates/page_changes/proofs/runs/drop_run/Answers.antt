@@ -45,7 +45,7 @@ returns-in_err-drop_events-clause-done g c faithful = λ wanted known db t rests
     let roots = c.in_ok-roots.ensures.found before db known (store_resting old db known wanted rests holds.contain.sound) in
     let w = begins read (rests_after old read c.find_roots.ensures.reads before c.in_ok-roots.ensures.usable rests) in
     let p = err_from_is_err_and c.from_residual-in_err-drop_events.result c.from_residual-in_err-drop_events.ensures.1 in
-    rw (p.1, p.2) (store_fails_later old read c.drop_events.new.file _ c.find_roots.ensures.reads.keeps (λ _. tt) (c.in_err-drop_events.ensures.done faithful wanted known db db t w holds roots))
+    rw (p.1, p.2) (store_fails_later old read c.drop_events.new.file _ c.find_roots.ensures.reads.keeps (λ _. tt) (c.in_err-drop_events.ensures.done faithful wanted known db db t w holds roots tt))
 
 pub returns-in_err-drop_costs-clause-done : goal.returns-in_err-drop_costs-clause-done
 returns-in_err-drop_costs-clause-done g c faithful = λ wanted known db t rests holds listed.
@@ -56,8 +56,8 @@ returns-in_err-drop_costs-clause-done g c faithful = λ wanted known db t rests 
     let keeps = Keeps-trans _ _ _ c.find_roots.ensures.reads.keeps c.drop_events.ensures.leaves.keeps in
     let p = err_from_is_err_and c.from_residual-in_err-drop_costs.result c.from_residual-in_err-drop_costs.ensures.1 in
     rw (p.1, p.2) (so_by (c.in_ok-roots.ensures.found before db known (store_resting old db known wanted rests holds.contain.sound)) (λ roots.
-    so_by_parts (c.in_ok-drop_events.ensures.done after_one wanted known db db t (begins read (rests_after old read c.find_roots.ensures.reads before c.in_ok-roots.ensures.usable rests)) holds roots) (λ now_0 writes_0 holds_0.
-    store_fails_later old c.drop_events.new.file c.drop_costs.new.file _ keeps (λ _. tt) (c.in_err-drop_costs.ensures.done faithful wanted known db now_0 _ writes_0 holds_0 roots))))
+    so_by_parts (c.in_ok-drop_events.ensures.done after_one wanted known db db t (begins read (rests_after old read c.find_roots.ensures.reads before c.in_ok-roots.ensures.usable rests)) holds roots tt) (λ now_0 writes_0 holds_0.
+    store_fails_later old c.drop_events.new.file c.drop_costs.new.file _ keeps (λ _. tt) (c.in_err-drop_costs.ensures.done faithful wanted known db now_0 _ writes_0 holds_0 roots tt))))
 
 pub returns-in_err-drop_members-clause-done : goal.returns-in_err-drop_members-clause-done
 returns-in_err-drop_members-clause-done g c faithful = λ wanted known db t rests holds listed.
@@ -69,9 +69,9 @@ returns-in_err-drop_members-clause-done g c faithful = λ wanted known db t rest
     let keeps = Keeps-trans _ _ _ (Keeps-trans _ _ _ c.find_roots.ensures.reads.keeps c.drop_events.ensures.leaves.keeps) c.drop_costs.ensures.leaves.keeps in
     let p = err_from_is_err_and c.from_residual-in_err-drop_members.result c.from_residual-in_err-drop_members.ensures.1 in
     rw (p.1, p.2) (so_by (c.in_ok-roots.ensures.found before db known (store_resting old db known wanted rests holds.contain.sound)) (λ roots.
-    so_by_parts (c.in_ok-drop_events.ensures.done after_one wanted known db db t (begins read (rests_after old read c.find_roots.ensures.reads before c.in_ok-roots.ensures.usable rests)) holds roots) (λ now_0 writes_0 holds_0.
-    so_by_parts (c.in_ok-drop_costs.ensures.done after_two wanted known db now_0 _ writes_0 holds_0 roots) (λ now_1 writes_1 holds_1.
-    store_fails_later old c.drop_costs.new.file c.drop_members.new.file _ keeps (λ _. tt) (c.in_err-drop_members.ensures.done faithful wanted known db now_1 _ writes_1 holds_1 roots)))))
+    so_by_parts (c.in_ok-drop_events.ensures.done after_one wanted known db db t (begins read (rests_after old read c.find_roots.ensures.reads before c.in_ok-roots.ensures.usable rests)) holds roots tt) (λ now_0 writes_0 holds_0.
+    so_by_parts (c.in_ok-drop_costs.ensures.done after_two wanted known db now_0 _ writes_0 holds_0 roots tt) (λ now_1 writes_1 holds_1.
+    store_fails_later old c.drop_costs.new.file c.drop_members.new.file _ keeps (λ _. tt) (c.in_err-drop_members.ensures.done faithful wanted known db now_1 _ writes_1 holds_1 roots tt)))))
 
 pub returns-in_err-clear_baselines-clause-done : goal.returns-in_err-clear_baselines-clause-done
 returns-in_err-clear_baselines-clause-done g c faithful = λ wanted known db t rests holds listed.
@@ -84,10 +84,10 @@ returns-in_err-clear_baselines-clause-done g c faithful = λ wanted known db t r
     let keeps = Keeps-trans _ _ _ (Keeps-trans _ _ _ (Keeps-trans _ _ _ c.find_roots.ensures.reads.keeps c.drop_events.ensures.leaves.keeps) c.drop_costs.ensures.leaves.keeps) c.drop_members.ensures.leaves.keeps in
     let p = err_from_is_err_and c.from_residual-in_err-clear_baselines.result c.from_residual-in_err-clear_baselines.ensures.1 in
     rw (p.1, p.2) (so_by (c.in_ok-roots.ensures.found before db known (store_resting old db known wanted rests holds.contain.sound)) (λ roots.
-    so_by_parts (c.in_ok-drop_events.ensures.done after_one wanted known db db t (begins read (rests_after old read c.find_roots.ensures.reads before c.in_ok-roots.ensures.usable rests)) holds roots) (λ now_0 writes_0 holds_0.
-    so_by_parts (c.in_ok-drop_costs.ensures.done after_two wanted known db now_0 _ writes_0 holds_0 roots) (λ now_1 writes_1 holds_1.
-    so_by_parts (c.in_ok-drop_members.ensures.done after_three wanted known db now_1 _ writes_1 holds_1 roots) (λ now_2 writes_2 holds_2.
-    store_fails_later old c.drop_members.new.file c.clear_baselines.new.file _ keeps (λ (can : CanDrop c.args.run t). can.unbased) (c.in_err-clear_baselines.ensures.done faithful wanted known db now_2 _ writes_2 holds_2 roots))))))
+    so_by_parts (c.in_ok-drop_events.ensures.done after_one wanted known db db t (begins read (rests_after old read c.find_roots.ensures.reads before c.in_ok-roots.ensures.usable rests)) holds roots tt) (λ now_0 writes_0 holds_0.
+    so_by_parts (c.in_ok-drop_costs.ensures.done after_two wanted known db now_0 _ writes_0 holds_0 roots tt) (λ now_1 writes_1 holds_1.
+    so_by_parts (c.in_ok-drop_members.ensures.done after_three wanted known db now_1 _ writes_1 holds_1 roots tt) (λ now_2 writes_2 holds_2.
+    store_fails_later old c.drop_members.new.file c.clear_baselines.new.file _ keeps (λ (can : CanDrop c.args.run t). can.unbased) (c.in_err-clear_baselines.ensures.done faithful wanted known db now_2 _ writes_2 holds_2 roots tt))))))
 
 pub returns-clause-done : goal.returns-clause-done
 returns-clause-done g c faithful = λ wanted known db t rests holds listed.
@@ -100,10 +100,10 @@ returns-clause-done g c faithful = λ wanted known db t rests holds listed.
     let before = c.drop_events.ensures.leaves.keeps.stays.clean after_one in
     let keeps = Keeps-trans _ _ _ (Keeps-trans _ _ _ (Keeps-trans _ _ _ (Keeps-trans _ _ _ c.find_roots.ensures.reads.keeps c.drop_events.ensures.leaves.keeps) c.drop_costs.ensures.leaves.keeps) c.drop_members.ensures.leaves.keeps) c.clear_baselines.ensures.leaves.keeps in
     so_by (c.in_ok-roots.ensures.found before db known (store_resting old db known wanted rests holds.contain.sound)) (λ roots.
-    so_by_parts (c.in_ok-drop_events.ensures.done after_one wanted known db db t (begins read (rests_after old read c.find_roots.ensures.reads before c.in_ok-roots.ensures.usable rests)) holds roots) (λ now_0 writes_0 holds_0.
-    so_by_parts (c.in_ok-drop_costs.ensures.done after_two wanted known db now_0 _ writes_0 holds_0 roots) (λ now_1 writes_1 holds_1.
-    so_by_parts (c.in_ok-drop_members.ensures.done after_three wanted known db now_1 _ writes_1 holds_1 roots) (λ now_2 writes_2 holds_2.
-    so_by_parts (c.in_ok-clear_baselines.ensures.done after_four wanted known db now_2 _ writes_2 holds_2 roots) (λ now_3 writes_3 holds_3.
+    so_by_parts (c.in_ok-drop_events.ensures.done after_one wanted known db db t (begins read (rests_after old read c.find_roots.ensures.reads before c.in_ok-roots.ensures.usable rests)) holds roots tt) (λ now_0 writes_0 holds_0.
+    so_by_parts (c.in_ok-drop_costs.ensures.done after_two wanted known db now_0 _ writes_0 holds_0 roots tt) (λ now_1 writes_1 holds_1.
+    so_by_parts (c.in_ok-drop_members.ensures.done after_three wanted known db now_1 _ writes_1 holds_1 roots tt) (λ now_2 writes_2 holds_2.
+    so_by_parts (c.in_ok-clear_baselines.ensures.done after_four wanted known db now_2 _ writes_2 holds_2 roots tt) (λ now_3 writes_3 holds_3.
     match_result c.drop_its_row.result (λ made. made) (λ e. store_fails_later old c.clear_baselines.new.file c.drop_its_row.new.file e keeps (λ _. tt))
     (c.drop_its_row.ensures.done faithful wanted known db now_3 t writes_3 holds_3 roots))))))
 
