@@ -9,7 +9,7 @@ returns-in-Ok g c =
       pages = λ faithful usable. c.checkpoint.ensures.pages faithful usable;
       rests = λ faithful usable wanted known db was. c.checkpoint.ensures.rests faithful usable wanted known db was;
     } in
-    asked_same _ _ same refl refl refl true (λ _. c.in-Ok.ensures.usable)
+    asked_same _ _ same refl refl refl true (λ _. c.in-Ok.ensures.leaves.usable)
 
 pub returns-in-Err : goal.returns-in-Err
 returns-in-Err g c =
