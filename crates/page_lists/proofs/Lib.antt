@@ -3,11 +3,13 @@ pub mod Chains
 pub mod Columns
 pub mod Entries
 pub mod HeadLists
+pub mod HeadOrder
 pub mod HeadTold
 pub mod Indexed
 pub mod NameColumns
 pub mod NamesTold
 pub mod Probing
+pub mod Refusing
 pub mod Rooting
 pub mod RunRows
 pub mod Said

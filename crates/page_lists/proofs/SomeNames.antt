@@ -183,7 +183,7 @@ all_kept : (P : Row → Type 0) (p : Row → Bool) (rows : List Row) → AllByRe
 all_kept P p [] all = tt
 all_kept P p (row ∷ rows) all = elim (cases_Bool (p row)) [ inl one ↦ rw one (all.0, all_kept P p rows all.1) | inr other ↦ rw other (all_kept P p rows all.1) ]
 
-kept_rise : (p : Row → Bool) (rows : List Row) → Rise rows → Rise (filter p rows)
+pub kept_rise : (p : Row → Bool) (rows : List Row) → Rise rows → Rise (filter p rows)
 kept_rise p [] rise = tt
 kept_rise p (row ∷ rows) rise = elim (cases_Bool (p row)) [ inl one ↦ rw one (all_kept (λ other. id_of row <ℤ id_of other) p rows rise.0, kept_rise p rows rise.1) | inr other ↦ rw other (kept_rise p rows rise.1) ]
 

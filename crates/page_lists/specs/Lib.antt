@@ -1,11 +1,13 @@
 pub mod Alike
 pub mod Among
 pub mod Entries
+pub mod Heads
 pub mod Indexed
 pub mod Lists
 pub mod Meta
 pub mod Names
 pub mod Opening
+pub mod Refusals
 pub mod Shown
 pub mod Sizes
 pub mod Texts

@@ -1,7 +1,8 @@
 // The values of a record, one after another. A value that the type does not show is refused.
-ghost use Rattle.std.specs.Prelude.{◌≡◌, ◌∷◌, [], string_bytes, option_map, IfOk, OnOk};
+ghost use Rattle.std.specs.Prelude.{◌≡◌, ◌≢◌, ◌∷◌, [], string_bytes, option_map, IfErr, IfOk, OnOk};
 ghost use Rattle.sqlite_record.specs.Fields.{fields_left};
 ghost use Rattle.sqlite_value.specs.declared.value.Value.TheVariants.{Null, Text, Blob};
+ghost use Rattle.sqlite_value.specs.Order.{Row};
 ghost use Rattle.plain_tables.specs.Labels.{IsLabel};
 ghost use Rattle.profile_records.specs.Kinds.{kind_number};
 ghost use Rattle.prof_store.specs.Tables.{number, number_or_null, text_or_null};
@@ -52,7 +53,8 @@ pub fn whole_in(fields: &mut Fields<'_>) -> Result<ColumnInt, OutOfForm>
 
 /// Bytes, where they lie.
 pub(crate) fn bytes_in<'a>(fields: &mut Fields<'a>) -> Result<&'a [u8], OutOfForm>
-    ensures { IfOk result (λ bytes. fields_left fields.old ≡ Blob bytes.now ∷ fields_left fields.new) }
+    ensures read { IfOk result (λ bytes. fields_left fields.old ≡ Blob bytes.now ∷ fields_left fields.new) }
+    ensures refused { IfErr result (λ _. (bytes : _) (rest : Row) → fields_left fields.old ≢ Blob bytes ∷ rest) }
 {
     match fields.next() {
         Some(ValueRef::Blob(bytes)) => Ok(bytes),
@@ -109,7 +111,8 @@ pub(crate) fn text_or_null_in(
 
 /// The column of a key that is the rowid, which is empty.
 pub(crate) fn key_in(fields: &mut Fields<'_>) -> Result<(), OutOfForm>
-    ensures { OnOk result (fields_left fields.old ≡ Null ∷ fields_left fields.new) }
+    ensures read { OnOk result (fields_left fields.old ≡ Null ∷ fields_left fields.new) }
+    ensures refused { IfErr result (λ _. (rest : Row) → fields_left fields.old ≢ Null ∷ rest) }
 {
     match fields.next() {
         Some(ValueRef::Null) => Ok(()),
@@ -153,7 +156,8 @@ pub(crate) fn label_in(alloc: Global, fields: &mut Fields<'_>) -> Result<String,
 
 /// Refuses a record that has more values.
 pub fn end_of(fields: &mut Fields<'_>) -> Result<(), OutOfForm>
-    ensures { OnOk result (fields_left fields.old ≡ []) }
+    ensures read { OnOk result (fields_left fields.old ≡ []) }
+    ensures refused { IfErr result (λ _. fields_left fields.old ≢ []) }
 {
     match fields.next() {
         None => Ok(()),

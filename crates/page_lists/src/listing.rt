@@ -2,6 +2,7 @@
 ghost use Rattle.std.specs.Prelude.{◌≡◌, ℕ, List, map, IfOk, OnOk};
 ghost use Rattle.sqlite_value.specs.Order.{Row};
 ghost use Rattle.page_files.specs.Files.{IsFaithful, IsUsable, OnlyReads};
+ghost use Rattle.page_lists.specs.Refusals.{ServesRows};
 ghost use Rattle.page_lists.specs.Shown.{ShowsRows};
 
 use crate::records::FromRecord;
@@ -20,7 +21,8 @@ struct Lines<L> {
 }
 
 impl<L: FromRecord + Drop> RowSink for Lines<L> {
-    ghost use Rattle.std.specs.Prelude.{◌≡◌, map, ⊤};
+    ghost use Rattle.std.specs.Prelude.{◌≡◌, map};
+    ghost use Rattle.page_lists.specs.Refusals.{RefusesRow};
 
     type Refusal = StoreError;
 
@@ -30,7 +32,7 @@ impl<L: FromRecord + Drop> RowSink for Lines<L> {
 
     ghost Ends = { λ _ _ _. ⊥ };
 
-    ghost Refuses = { λ _ _. ⊤ };
+    ghost Refuses = { RefusesRow L.IsRead };
 
     fn take(&mut self, rowid: i64, payload: &[u8]) -> Result<bool, StoreError> {
         let line = L::from_record(self.alloc, rowid, payload)?;
@@ -50,6 +52,7 @@ pub(crate) fn all_rows<D: Disk, L: FromRecord + Drop>(
 ) -> Result<Vec<L>, StoreError>
     ensures read { IsFaithful file.new → (rows : List Row) → ShowsRows file.old root rows
         → IfOk result (λ lines. map L.columns lines.items ≡ map L.seen rows) }
+    ensures serves { ServesRows file.old file.new L.IsRead root result }
     ensures usable { OnOk result (IsUsable file.new) }
     ensures reads { OnlyReads file.old file.new }
 {

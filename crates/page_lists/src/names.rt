@@ -1,5 +1,5 @@
 // The names that are held, read off their table.
-ghost use Rattle.std.specs.Prelude.{◌≡◌, ◌↔◌, ◌==◌, true, List, IfOk};
+ghost use Rattle.std.specs.Prelude.{◌≡◌, ◌↔◌, ◌==◌, true, List, IfErr, IfOk};
 ghost use Rattle.std.specs.List.{AllByRecursion, list_all, list_any};
 ghost use Rattle.std.specs.List.Sorted.{IsNonDecreasing};
 ghost use Rattle.sqlite_value.specs.Order.{Row};
@@ -12,6 +12,7 @@ ghost use Rattle.prof_store.specs.Names.{SayNames};
 ghost use Rattle.prof_store.specs.Tables.{name_columns};
 ghost use Rattle.page_lists.specs.Shown.{ShowsRows};
 ghost use Rattle.page_lists.specs.Names.{name_read};
+ghost use Rattle.page_lists.specs.Refusals.{IsNameRow, ServesRows};
 
 use crate::fields::{bytes_in, end_of, key_in};
 use crate::listing::all_rows;
@@ -28,7 +29,8 @@ use std::alloc::Global;
 
 /// A number and its name, where the name lies in the record.
 pub(crate) fn name_in(rowid: i64, payload: &[u8]) -> Result<(u32, &[u8]), OutOfForm>
-    ensures { IfOk result (λ read. name_columns (name_read read.0 read.1.now) ≡ table_row (rowid, payload.now)) }
+    ensures read { IfOk result (λ read. name_columns (name_read read.0 read.1.now) ≡ table_row (rowid, payload.now)) }
+    ensures refused { IfErr result (λ _. ¬ (IsNameRow (table_row (rowid, payload.now)))) }
 {
     let number = key_of(rowid)?;
     let mut fields = Fields::new(payload);
@@ -45,6 +47,10 @@ impl FromRecord for HeldName {
     ghost seen = { λ row. row };
 
     ghost columns = { λ n. name_columns (name_row n) };
+
+    ghost use Rattle.page_lists.specs.Refusals.{IsNameRow};
+
+    ghost IsRead = { IsNameRow };
 
     fn from_record(alloc: Global, rowid: i64, payload: &[u8]) -> Result<HeldName, StoreError> {
         let (number, name) = name_in(rowid, payload)?;
@@ -64,6 +70,7 @@ pub fn names_under<D: Disk>(
 ) -> Result<HeldNames, StoreError>
     ensures read { IsFaithful file.new → (rows : List Row) → ShowsRows file.old root rows → (names : List NameRow) → SayNames rows names
         → IfOk result (λ held. held ≡ names) }
+    ensures serves { ServesRows file.old file.new IsNameRow root result }
     ensures reads { OnlyReads file.old file.new }
 {
     let names = all_rows(file, alloc, root)?;
@@ -80,6 +87,7 @@ pub fn names_among<D: Disk>(
 ) -> Result<HeldNames, StoreError>
     ensures read { IsFaithful file.new → (rows : List Row) → ShowsRows file.old root rows → (names : List NameRow) → SayNames rows names
         → IfOk result (λ held. AreAmong numbers.now names held) }
+    ensures serves { ServesRows file.old file.new IsNameRow root result }
     ensures reads { OnlyReads file.old file.new }
 {
     let names = rows_among(file, alloc, root, numbers)?;
@@ -94,6 +102,10 @@ impl FromRecord for u32 {
     ghost seen = { take 1 };
 
     ghost columns = { λ n. number n ∷ [] };
+
+    ghost use Rattle.page_lists.specs.Refusals.{IsNameRow};
+
+    ghost IsRead = { IsNameRow };
 
     fn from_record(_alloc: Global, rowid: i64, _payload: &[u8]) -> Result<u32, StoreError> {
         Ok(key_of(rowid)?)
@@ -123,6 +135,7 @@ pub fn holds_names<D: Disk>(
 ) -> Result<bool, StoreError>
     ensures read { IsFaithful file.new → (rows : List Row) → ShowsRows file.old root rows → (names : List NameRow) → SayNames rows names
         → IfOk result (λ are. (are ≡ true) ↔ AllByRecursion (IsHeld names) numbers.now) }
+    ensures serves { ServesRows file.old file.new IsNameRow root result }
     ensures reads { OnlyReads file.old file.new }
 {
     let found: Vec<u32> = rows_among(file, alloc, root, numbers)?;

@@ -1,5 +1,5 @@
 // The rows of the small tables, and of the names.
-ghost use Rattle.std.specs.Prelude.{◌≡◌, pos, IfOk};
+ghost use Rattle.std.specs.Prelude.{◌≡◌, ◌≢◌, ◌<◌, ◌^◌, pos, IfErr, IfOk};
 ghost use Rattle.sqlite_value.specs.declared.value.Value.TheVariants.{Int};
 
 use crate::fields::{
@@ -16,7 +16,8 @@ use std::alloc::Global;
 
 /// A rowid that is a key: a whole number from 0 on, below 2^32.
 pub(crate) fn key_of(rowid: i64) -> Result<u32, OutOfForm>
-    ensures { IfOk result (λ n. rowid ≡ pos n) }
+    ensures read { IfOk result (λ n. rowid ≡ pos n) }
+    ensures refused { IfErr result (λ _. (n : _) → n < 2 ^ 32 → rowid ≢ pos n) }
 {
     u32::try_from(rowid).map_err(|_| OutOfForm)
 }
@@ -36,6 +37,8 @@ impl FromRecord for Meta {
     ghost seen = { λ row. row };
 
     ghost columns = { λ m. number 1 ∷ Null ∷ number m.schema ∷ number m.next ∷ [] };
+
+    ghost IsRead = { λ _. ⊥ };
 
     fn from_record(_alloc: Global, rowid: i64, payload: &[u8]) -> Result<Meta, StoreError> {
         if rowid != 1 {
@@ -57,6 +60,8 @@ impl FromRecord for ListedRun {
     ghost seen = { λ row. row };
 
     ghost columns = { λ r. run_columns (run_row r) };
+
+    ghost IsRead = { λ _. ⊥ };
 
     fn from_record(alloc: Global, rowid: i64, payload: &[u8]) -> Result<ListedRun, StoreError> {
         let number = key_of(rowid)?;
@@ -85,6 +90,8 @@ impl FromRecord for ListedEvent {
     ghost seen = { drop 1 };
 
     ghost columns = { λ e. event_columns (event_row e) };
+
+    ghost IsRead = { λ _. ⊥ };
 
     fn from_record(alloc: Global, _rowid: i64, payload: &[u8]) -> Result<ListedEvent, StoreError> {
         let mut fields = Fields::new(payload);
@@ -115,6 +122,8 @@ impl FromRecord for ListedDerived {
 
     ghost columns = { λ d. derived_columns (derived_row d) };
 
+    ghost IsRead = { λ _. ⊥ };
+
     fn from_record(
         alloc: Global,
         _rowid: i64,
@@ -137,6 +146,8 @@ impl FromRecord for ListedCoef {
     ghost seen = { drop 1 };
 
     ghost columns = { λ c. coef_columns (coef_row c) };
+
+    ghost IsRead = { λ _. ⊥ };
 
     fn from_record(_alloc: Global, _rowid: i64, payload: &[u8]) -> Result<ListedCoef, StoreError> {
         let mut fields = Fields::new(payload);
@@ -163,6 +174,8 @@ impl FromRecord for ListedGroup {
 
     ghost columns = { λ g. group_columns (group_row g) };
 
+    ghost IsRead = { λ _. ⊥ };
+
     fn from_record(alloc: Global, _rowid: i64, payload: &[u8]) -> Result<ListedGroup, StoreError> {
         let mut fields = Fields::new(payload);
         let name = text_in(alloc, &mut fields)?;
@@ -180,6 +193,8 @@ impl FromRecord for ListedMember {
     ghost seen = { drop 1 };
 
     ghost columns = { λ m. member_columns (member_row m) };
+
+    ghost IsRead = { λ _. ⊥ };
 
     fn from_record(alloc: Global, _rowid: i64, payload: &[u8]) -> Result<ListedMember, StoreError> {
         let mut fields = Fields::new(payload);

@@ -4,6 +4,7 @@ ghost use Rattle.std.specs.List.Sorted.{IsNonDecreasing};
 ghost use Rattle.sqlite_value.specs.Order.{Row};
 ghost use Rattle.page_files.specs.Files.{IsFaithful, OnlyReads};
 ghost use Rattle.page_lists.specs.Among.{IsPassedTo, is_among};
+ghost use Rattle.page_lists.specs.Refusals.{ServesRows};
 ghost use Rattle.page_lists.specs.Shown.{ShowsRows};
 
 use crate::records::FromRecord;
@@ -40,10 +41,11 @@ struct Among<'n, L> {
 }
 
 impl<L: FromRecord + Drop> RowSink for Among<'_, L> {
-    ghost use Rattle.std.specs.Prelude.{◌≡◌, ℕ, List, length, ⊤};
+    ghost use Rattle.std.specs.Prelude.{◌≡◌, ℕ, List, length};
     ghost use Rattle.std.specs.List.Sorted.{IsNonDecreasing};
     ghost use Rattle.sqlite_value.specs.Order.{Row};
     ghost use Rattle.page_lists.specs.Among.{HasTaken, Rise};
+    ghost use Rattle.page_lists.specs.Refusals.{RefusesRow};
 
     type Refusal = StoreError;
 
@@ -54,7 +56,7 @@ impl<L: FromRecord + Drop> RowSink for Among<'_, L> {
 
     ghost Ends = { λ start rows s. IsNonDecreasing start.0 → Rise rows → HasTaken L.columns L.seen start.0 start.1 rows (length start.0) s.lines.items };
 
-    ghost Refuses = { λ _ _. ⊤ };
+    ghost Refuses = { RefusesRow L.IsRead };
 
     fn take(&mut self, rowid: i64, payload: &[u8]) -> Result<bool, StoreError> {
         let at = passed_to(self.numbers, self.at, rowid);
@@ -84,6 +86,7 @@ fn with_group<D: Disk, L: FromRecord + Drop>(
 ) -> Result<Vec<L>, StoreError>
     ensures read { IsNonDecreasing group.now → IsFaithful file.new → (rows : List Row) → ShowsRows file.old root rows
         → IfOk result (λ more. map L.columns more.items ≡ map L.columns lines.items ++ map L.seen (filter (is_among group.now) rows)) }
+    ensures serves { ServesRows file.old file.new L.IsRead root result }
     ensures reads { OnlyReads file.old file.new }
 {
     let Some(first) = group.first() else {
@@ -124,6 +127,7 @@ fn rows_of_sorted<D: Disk, L: FromRecord + Drop>(
 ) -> Result<Vec<L>, StoreError>
     ensures read { IsNonDecreasing sorted.now → IsFaithful file.new → (rows : List Row) → ShowsRows file.old root rows
         → IfOk result (λ lines. map L.columns lines.items ≡ map L.seen (filter (is_among sorted.now) rows)) }
+    ensures serves { ServesRows file.old file.new L.IsRead root result }
     ensures reads { OnlyReads file.old file.new }
 {
     let mut lines = Vec::new(alloc);
@@ -147,6 +151,7 @@ pub(crate) fn rows_among<D: Disk, L: FromRecord + Drop>(
 ) -> Result<Vec<L>, StoreError>
     ensures read { IsFaithful file.new → (rows : List Row) → ShowsRows file.old root rows
         → IfOk result (λ lines. map L.columns lines.items ≡ map L.seen (filter (is_among numbers.now) rows)) }
+    ensures serves { ServesRows file.old file.new L.IsRead root result }
     ensures reads { OnlyReads file.old file.new }
 {
     let Ok(mut sorted) = numbers.to_vec(alloc) else {

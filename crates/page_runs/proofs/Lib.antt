@@ -4,6 +4,7 @@ mod Begins
 mod Concluding
 mod Keeping
 mod RunLines
+mod Serving
 pub mod NumberOfName
 pub mod PartSums
 pub mod States

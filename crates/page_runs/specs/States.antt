@@ -152,6 +152,7 @@ module _ {D : Type 0} {g : Ghosts D} where
     is_faithful = IsFaithful;
     is_usable = λ store. (pools.state store.file.pool).is_ready;
     faults = faults;
+    is_full = λ store. pools.IsFull store.file.pool;
     usable = λ t s represents. represents.reads.usable;
     said = λ t s represents. represents.reads;
     readable = λ t s reads. reads.usable;

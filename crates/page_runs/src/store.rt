@@ -254,6 +254,8 @@ impl<D: Disk> StoreState for PageRuns<D> {
 
     ghost faults = { faults };
 
+    ghost is_full = { λ store. pools.IsFull store.file.pool };
+
     ghost usable = { λ t s represents. represents.reads.usable };
 
     ghost said = { λ t s represents. represents.reads };

@@ -26,7 +26,7 @@ above : (x y : GroupEntry) (ys : List GroupEntry) → IsBefore x y → AllByRecu
 above x y [] less h = tt
 above x y (z ∷ ys) less h = (nat_list_cmp_total.trans (string_bytes x.name) (string_bytes y.name) (string_bytes z.name) less h.0, above x y ys less h.1)
 
-rising : (xs : List GroupEntry) → AllAdjacentBelow IsBefore xs (length xs) → IsAscending IsBefore xs
+pub rising : (xs : List GroupEntry) → AllAdjacentBelow IsBefore xs (length xs) → IsAscending IsBefore xs
 rising [] h = tt
 rising (x ∷ []) h = (tt, tt)
 rising (x ∷ y ∷ ys) h =
@@ -77,13 +77,13 @@ others name other [] e = refl
 others name other (run ∷ runs) e =
     ap (λ b. if b then member_of other run ∷ members_in name (map (member_of other) runs) else members_in name (map (member_of other) runs)) e ∙ others name other runs e
 
-none_later : (name : List ℕ) (es : List GroupEntry) → AllByRecursion (λ (e : GroupEntry). bytes_eq (string_bytes e.name) name ≡ false) es → members_in name (flat_map entry_members es) ≡ []
+pub none_later : (name : List ℕ) (es : List GroupEntry) → AllByRecursion (λ (e : GroupEntry). bytes_eq (string_bytes e.name) name ≡ false) es → members_in name (flat_map entry_members es) ≡ []
 none_later name [] h = refl
 none_later name (e ∷ es) h =
     filter-both (λ (m : MemberRow). bytes_eq m.group name) (entry_members e) (flat_map entry_members es)
     ∙ ap₂ ◌++◌ (others name (string_bytes e.name) e.members h.0) (none_later name es h.1)
 
-after : (x : GroupEntry) (xs : List GroupEntry) → AllByRecursion (IsBefore x) xs → AllByRecursion (λ (e : GroupEntry). bytes_eq (string_bytes e.name) (string_bytes x.name) ≡ false) xs
+pub after : (x : GroupEntry) (xs : List GroupEntry) → AllByRecursion (IsBefore x) xs → AllByRecursion (λ (e : GroupEntry). bytes_eq (string_bytes e.name) (string_bytes x.name) ≡ false) xs
 after x [] h = tt
 after x (y ∷ xs) h = (turned (string_bytes x.name) (string_bytes y.name) (differ (string_bytes x.name) (string_bytes y.name) h.0), after x xs h.1)
 

@@ -68,7 +68,7 @@ pub said_events : (lines : List HeadEvent) (names : List (List ℕ)) (stated : O
 said_events lines names None places none = said_without 0 lines names places none
 said_events lines names (Some sums) places totals = said_with 0 lines names sums places totals
 
-length-placed : (at : ℕ) (names : List (List ℕ)) → length (placed at names) ≡ length names
+pub length-placed : (at : ℕ) (names : List (List ℕ)) → length (placed at names) ≡ length names
 length-placed at [] = refl
 length-placed at (name ∷ names) = ap suc (length-placed (suc at) names)
 

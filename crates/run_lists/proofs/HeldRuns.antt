@@ -29,7 +29,7 @@ above_more : (m n : ℕ) (ns : List ℕ) → m < n → AllByRecursion (λ k. n <
 above_more m n [] low h = tt
 above_more m n (k ∷ ns) low h = (omega (arith, low, h.0), above_more m n ns low h.1)
 
-ascends : (ns : List ℕ) → Rise ns → IsAscending (λ a b. a < b) ns
+pub ascends : (ns : List ℕ) → Rise ns → IsAscending (λ a b. a < b) ns
 ascends [] h = tt
 ascends (n ∷ []) h = (tt, tt)
 ascends (n ∷ m ∷ ns) h =

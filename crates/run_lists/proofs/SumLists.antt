@@ -31,16 +31,20 @@ sums_more placed at sums low same was =
     sums_append 0 sums it.1 ∙ ap₂ (λ l k. l ++ at_place k it.1 ∷ []) was here
     ∙ sym (ap (map placed_sum) (take_more placed at (0, 0) low) ∙ map_push placed_sum (take at placed) it)
 
+-- the rows of a run's events are its places with their sums
+pub rows_placed : (t : Tables) (lists : RunLists) → AreListed t lists → (run : ℕ) (placed : List (ℕ × ℕ)) → placed ≡ map (λ (e : ListedEvent). (e.place, e.self_cost)) (filter (λ (e : ListedEvent). e.run == run) lists.events)
+    → map self_of_line (events_of_run run t) ≡ map placed_sum placed
+rows_placed t lists was run placed read =
+    let is_it = λ (e : EventRow). e.run == run in
+    let events = filter (λ (e : ListedEvent). e.run == run) lists.events in
+    ap (λ l. map self_of_line (filter is_it l)) (sym was.events) ∙ ap (map self_of_line) (filter_row event_row is_it lists.events)
+    ∙ sym (map_row event_row self_of_line events) ∙ map_row (λ (e : ListedEvent). (e.place, e.self_cost)) placed_sum events ∙ ap (map placed_sum) (sym read)
+
 -- what was sorted has the sums of the rows
 pub sums_told : (t : Tables) (lists : RunLists) → AreListed t lists → (run : ℕ) (placed sorted : List (ℕ × ℕ)) (sums : List ℕ)
     → placed ≡ map (λ (e : ListedEvent). (e.place, e.self_cost)) (filter (λ (e : ListedEvent). e.run == run) lists.events) → IsPermutation placed sorted → sums_from 0 sums ≡ map placed_sum sorted → AreSelfSums (events_of_run run t) sums
 sums_told t lists was run placed sorted sums read moved are =
-    let is_it = λ (e : EventRow). e.run == run in
-    let events = filter (λ (e : ListedEvent). e.run == run) lists.events in
-    let rows : map self_of_line (events_of_run run t) ≡ map placed_sum placed =
-    ap (λ l. map self_of_line (filter is_it l)) (sym was.events) ∙ ap (map self_of_line) (filter_row event_row is_it lists.events)
-    ∙ sym (map_row event_row self_of_line events) ∙ map_row (λ (e : ListedEvent). (e.place, e.self_cost)) placed_sum events ∙ ap (map placed_sum) (sym read) in
-    subst₂ IsPermutation (sym rows) (sym are) (IsPermutation-map placed_sum placed sorted moved)
+    subst₂ IsPermutation (sym (rows_placed t lists was run placed read)) (sym are) (IsPermutation-map placed_sum placed sorted moved)
 
 -- ---- over all runs
 

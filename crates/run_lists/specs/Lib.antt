@@ -1,6 +1,7 @@
 pub mod HeldRuns
 pub mod Lent
 pub mod Listed
+pub mod InOrder
 pub mod RowSums
 pub mod RunLines
 pub mod Sums

@@ -1,6 +1,5 @@
 -- The names that are held, beside the rows and the lines that they show.
 use Rattle.std.specs.Prelude.{◌≡◌, ◌<◌, ℕ, List, get_or, length}
-use Rattle.sqlite_value.specs.Order.{Row}
 use Rattle.plain_tables.specs.Tables.{NameRow}
 use Rattle.prof_store.specs.Tables.{number}
 use Rattle.run_lists.specs.declared.held_names.HeldName.{HeldName}

@@ -1,8 +1,11 @@
 // The groups with their members.
-ghost use Rattle.std.specs.Prelude.{◌≡◌, ◌<◌, ◌≤◌, ◌↔◌, map, flat_map, length, take, IfOk, IsTrue, IsPermutation};
+ghost use Rattle.std.specs.Prelude.{◌≡◌, ◌<◌, ◌≤◌, ◌↔◌, List, map, flat_map, length, take, drop, string_bytes, IfOk, IfErr, IsTrue, IsPermutation, IsSortedByKey};
 ghost use Rattle.std.specs.List.{AllAdjacentBelow};
+ghost use Rattle.plain_tables.specs.Labels.{IsGroupName};
 ghost use Rattle.plain_tables.specs.Tables.{Tables};
+ghost use Rattle.run_stores.specs.Calls.{AnswersOrMemory};
 ghost use Rattle.run_stores.specs.Entries.{AreGroups, IsBefore, entry_group, entry_members, member_of};
+ghost use Rattle.run_lists.specs.InOrder.{AreRowsOf, BeginsWith, BeginsWithout, group_cmp, member_cmp};
 ghost use Rattle.run_lists.specs.Lent.{lent_group, lent_member};
 ghost use Rattle.run_lists.specs.Listed.{AreListed, group_row, member_row};
 
@@ -16,6 +19,7 @@ use std::cmp::Ordering;
 /// The groups by name.
 fn groups_by_name(alloc: Global, groups: &[ListedGroup]) -> Result<Vec<&ListedGroup>, AllocError>
     ensures same { IfOk result (λ lent. IsPermutation (map group_row groups.now) (map lent_group lent.items)) }
+    ensures sorted { IfOk result (λ lent. IsSortedByKey lent_group group_cmp lent.items) }
 {
     let mut lent: Vec<&ListedGroup> = groups.iter().collect(alloc)?;
     lent.sort_unstable_by(|group, other| group.name.as_str().cmp(other.name.as_str()));
@@ -28,6 +32,7 @@ fn members_by_group(
     members: &[ListedMember],
 ) -> Result<Vec<&ListedMember>, AllocError>
     ensures same { IfOk result (λ lent. IsPermutation (map member_row members.now) (map lent_member lent.items)) }
+    ensures sorted { IfOk result (λ lent. IsSortedByKey lent_member member_cmp lent.items) }
 {
     let mut lent: Vec<&ListedMember> = members.iter().collect(alloc)?;
     lent.sort_unstable_by(|member, other| {
@@ -41,6 +46,8 @@ fn members_by_group(
 fn runs_of(alloc: Global, name: &str, members: &[&ListedMember]) -> Result<ListVec<u32>, StoreError>
     ensures within { IfOk result (λ runs. length runs ≤ length members.now) }
     ensures front { IfOk result (λ runs. map (member_of name.now) runs ≡ map lent_member (take (length runs) members.now)) }
+    ensures whole { IfOk result (λ runs. BeginsWithout name.now (map lent_member (drop (length runs) members.now))) }
+    ensures refused { AnswersOrMemory result }
 {
     let mut runs = ListVec::new(alloc);
     'members: for member in members {
@@ -73,6 +80,7 @@ fn group_entry(
     members: ListVec<u32>,
 ) -> Result<GroupEntry, StoreError>
     ensures made { IfOk result (λ entry. (entry.name ≡ name) × (entry.baseline ≡ baseline) × (entry.members ≡ members)) }
+    ensures refused { IfErr result (λ e. ¬ (IsGroupName (string_bytes name) × AllAdjacentBelow (λ a b. a < b) members (length members))) }
 {
     if !is_group_name(name.as_str()) || !numbers_rise(members.as_slice()) {
         return Err(StoreError::Store);
@@ -93,6 +101,10 @@ fn next_entry(
     ensures group { IfOk result (λ entry. entry_group entry ≡ group_row group.now) }
     ensures within { IfOk result (λ entry. length entry.members ≤ length members.now) }
     ensures front { IfOk result (λ entry. entry_members entry ≡ map lent_member (take (length entry.members) members.now)) }
+    ensures whole { (entry : GroupEntry) → entry_group entry ≡ group_row group.now → BeginsWith entry (map lent_member members.now)
+        → IfOk result (λ made. made.members ≡ entry.members) }
+    ensures serves { (entry : GroupEntry) → entry_group entry ≡ group_row group.now → BeginsWith entry (map lent_member members.now)
+        → AnswersOrMemory result }
 {
     let name = group.name.clone()?;
     let runs = runs_of(alloc, name.as_str(), members)?;
@@ -107,6 +119,8 @@ fn joined(
 ) -> Result<Vec<GroupEntry>, StoreError>
     ensures groups { IfOk result (λ entries. map entry_group entries.items ≡ map lent_group groups.now) }
     ensures members { IfOk result (λ entries. flat_map entry_members entries.items ≡ map lent_member members.now) }
+    ensures serves { (entries : List GroupEntry) → AreRowsOf entries (map lent_group groups.now) (map lent_member members.now)
+        → AnswersOrMemory result }
 {
     let mut entries = Vec::new(alloc);
     let mut taken = 0;
@@ -152,6 +166,8 @@ impl RunLists {
     pub fn groups(&self, alloc: Global) -> Result<Vec<GroupEntry>, StoreError>
         ensures told { (t : Tables) → AreListed t self.now → IfOk result (λ entries. AreGroups t entries.items) }
         ensures rising { IfOk result (λ entries. AllAdjacentBelow IsBefore entries.items (length entries.items)) }
+        ensures serves { (t : Tables) → AreListed t self.now → (entries : List GroupEntry) → AreGroups t entries
+            → AllAdjacentBelow IsBefore entries (length entries) → AnswersOrMemory result }
     {
         let groups = groups_by_name(alloc, &self.groups)?;
         let members = members_by_group(alloc, &self.members)?;

@@ -1,7 +1,9 @@
 // The head of a run, from its lines.
-ghost use Rattle.std.specs.Prelude.{◌≡◌, ◌≤◌, ◌++◌, [], ◌∷◌, map, take, length, Some, None, IfOk};
+ghost use Rattle.std.specs.Prelude.{◌≡◌, ◌<◌, ◌≤◌, ◌^◌, ◌++◌, ℕ, suc, List, [], ◌∷◌, map, take, length, All, Option, Some, None, IfOk, IfSome, MatchResult};
 ghost use Rattle.std.specs.Fmt.{decimal};
-ghost use Rattle.run_stores.specs.HeldHeads.{coefs_at, coefs_from, placed};
+ghost use Rattle.cg_formulas.specs.declared.heads.FileHead.{FileHead};
+ghost use Rattle.run_stores.specs.Calls.{AnswersOrMemory};
+ghost use Rattle.run_stores.specs.HeldHeads.{StatesNumbers, coefs_at, coefs_from, placed};
 ghost use Rattle.run_lists.specs.HeadLines.{event_place, event_total, States, derived_place, entry_of_coef, IsReadFrom};
 
 use crate::head_lines::{HeadCoef, HeadDerived, HeadEvent};
@@ -13,6 +15,7 @@ use std::alloc::Global;
 /// A copy of a name whose place is the next.
 fn name_at(alloc: Global, place: u32, next: usize, name: &[u8]) -> Result<ListVec<u8>, StoreError>
     ensures read { IfOk result (λ copy. (place ≡ next) × (copy ≡ name.now)) }
+    ensures serves { place ≡ next → AnswersOrMemory result }
 {
     if place as usize != next {
         return Err(StoreError::Store);
@@ -26,6 +29,7 @@ fn name_at(alloc: Global, place: u32, next: usize, name: &[u8]) -> Result<ListVe
 /// The names of events whose places go up from 0 by one.
 fn event_names(alloc: Global, lines: &[HeadEvent]) -> Result<ListVec<ListVec<u8>>, StoreError>
     ensures read { IfOk result (λ names. map event_place lines.now ≡ placed 0 names) }
+    ensures serves { (names : List (List ℕ)) → map event_place lines.now ≡ placed 0 names → AnswersOrMemory result }
 {
     let mut names = ListVec::new(alloc);
     'lines: for line in lines {
@@ -40,6 +44,7 @@ fn event_names(alloc: Global, lines: &[HeadEvent]) -> Result<ListVec<ListVec<u8>
 /// The number that a text is in decimal, without a leading zero.
 fn decimal_in(alloc: Global, text: &str) -> Result<u128, StoreError>
     ensures read { IfOk result (λ number. decimal number ≡ text.now) }
+    ensures serves { (number : ℕ) → number < 2 ^ 128 → decimal number ≡ text.now → AnswersOrMemory result }
 {
     let Ok(number) = text.parse::<u128>() else {
         return Err(StoreError::Store);
@@ -57,6 +62,8 @@ fn decimal_in(alloc: Global, text: &str) -> Result<u128, StoreError>
 /// The totals that are stated, where each event has one.
 fn all_stated(alloc: Global, lines: &[HeadEvent]) -> Result<ListVec<u128>, StoreError>
     ensures read { IfOk result (λ sums. map event_total lines.now ≡ map (λ n. Some (decimal n)) sums) }
+    ensures serves { (sums : List ℕ) → All (λ n. n < 2 ^ 128) sums → map event_total lines.now ≡ map (λ n. Some (decimal n)) sums
+        → AnswersOrMemory result }
 {
     let mut sums = ListVec::new(alloc);
     'lines: for line in lines {
@@ -74,6 +81,8 @@ fn all_stated(alloc: Global, lines: &[HeadEvent]) -> Result<ListVec<u128>, Store
 /// The totals that are stated, if each event has one, or none has.
 fn stated_in(alloc: Global, lines: &[HeadEvent]) -> Result<Option<ListVec<u128>>, StoreError>
     ensures read { IfOk result (States lines.now) }
+    ensures serves { (stated : Option (List ℕ)) → IfSome stated (All (λ n. n < 2 ^ 128)) → States lines.now stated
+        → AnswersOrMemory result }
 {
     if lines.iter().all(|line| line.stated.is_none()) {
         return Ok(None);
@@ -86,6 +95,8 @@ fn stated_in(alloc: Global, lines: &[HeadEvent]) -> Result<Option<ListVec<u128>>
 fn first_times(place: usize, event: usize, coefs: &[HeadCoef]) -> (u64, usize)
     ensures within { result.1 ≤ length coefs.now }
     ensures said { map entry_of_coef (take result.1 coefs.now) ≡ coefs_at place event (result.0 ∷ []) }
+    ensures all { (times : ℕ) (row : List ℕ) (rows : List (List ℕ))
+        → map entry_of_coef coefs.now ≡ coefs_at place event (times ∷ row) ++ coefs_from (suc place) rows → result.0 ≡ times }
 {
     match coefs.first() {
         Some(coef)
@@ -105,6 +116,9 @@ fn row_in(
 ) -> Result<(ListVec<u64>, usize), StoreError>
     ensures within { IfOk result (λ r. r.1 ≤ length coefs.now) }
     ensures said { IfOk result (λ r. map entry_of_coef (take r.1 coefs.now) ≡ coefs_at place 0 r.0) }
+    ensures all { (row : List ℕ) (rows : List (List ℕ)) → length row ≡ events → map entry_of_coef coefs.now ≡ coefs_from place (row ∷ rows)
+        → IfOk result (λ r. r.0 ≡ row) }
+    ensures memory { AnswersOrMemory result }
 {
     let mut row = ListVec::new(alloc);
     let mut used = 0;
@@ -127,6 +141,9 @@ fn derived_in(
 ) -> Result<ListVec<(ListVec<u8>, ListVec<u64>)>, StoreError>
     ensures names { IfOk result (λ derived. map derived_place lines.now ≡ placed 0 (map (λ d. d.0) derived)) }
     ensures rows { IfOk result (λ derived. map entry_of_coef coefs.now ≡ coefs_from 0 (map (λ d. d.1) derived)) }
+    ensures serves { (derived : List (List ℕ × List ℕ)) → map derived_place lines.now ≡ placed 0 (map (λ d. d.0) derived)
+        → map entry_of_coef coefs.now ≡ coefs_from 0 (map (λ d. d.1) derived) → All (λ d. length d.1 ≡ events) derived
+        → MatchResult result (λ all. all ≡ derived) (λ e. e ≡ StoreError.Memory) }
 {
     let mut derived = ListVec::new(alloc);
     let mut used = 0;
@@ -153,6 +170,7 @@ fn all_names(
     derived: &[HeadDerived],
 ) -> Result<ListVec<ListVec<u8>>, StoreError>
     ensures read { IfOk result (λ names. names ≡ map (λ e. e.name.items) events.now ++ map (λ d. d.name.items) derived.now) }
+    ensures serves { (names : List (List ℕ)) → map event_place events.now ≡ placed 0 names → AnswersOrMemory result }
 {
     let mut names = event_names(alloc, events)?;
     'derived: for line in derived {
@@ -164,7 +182,7 @@ fn all_names(
     Ok(names)
 }
 
-/// The head that lines say, where they say one.
+/// The head that lines say. `Store` where they say none, or a total above 128 bits; `Memory`.
 pub fn head_in(
     alloc: Global,
     events: &[HeadEvent],
@@ -172,6 +190,7 @@ pub fn head_in(
     coefs: &[HeadCoef],
 ) -> Result<FileHead, StoreError>
     ensures read { IfOk result (λ head. IsReadFrom head events.now derived.now coefs.now) }
+    ensures serves { (head : FileHead) → IsReadFrom head events.now derived.now coefs.now → StatesNumbers head → AnswersOrMemory result }
 {
     let all = all_names(alloc, events, derived)?;
     let is_distinct = are_distinct(all.as_slice());

@@ -1,10 +1,11 @@
 // Whether lines name runs that are held.
-ghost use Rattle.std.specs.Prelude.{◌≡◌, ◌&&◌, true, IfErr, IfSome, OnOk};
+ghost use Rattle.std.specs.Prelude.{◌≡◌, ◌&&◌, true, IfSome, OnOk};
 ghost use Rattle.std.specs.List.{list_all};
 ghost use Rattle.std.specs.List.Sorted.{IsNonDecreasing};
 ghost use Rattle.plain_tables.specs.Tables.{Tables};
 ghost use Rattle.run_lists.specs.HeldRuns.{NameHeldRuns, is_one_of, is_none_or_one_of, name_some};
 ghost use Rattle.run_lists.specs.Listed.{AreListed};
+ghost use Rattle.run_stores.specs.Calls.{AnswersOrMemory};
 
 use crate::groups::numbers_rise;
 use crate::listed::{ListedGroup, RunLists};
@@ -67,7 +68,7 @@ impl RunLists {
     /// where it is not so, as where one of what is said twice is damaged; `Memory`.
     pub fn check_runs(&self, alloc: Global) -> Result<(), StoreError>
         ensures held { (t : Tables) → AreListed t self.now → OnOk result (NameHeldRuns t) }
-        ensures refused { (t : Tables) → AreListed t self.now → NameHeldRuns t → IfErr result (λ e. e ≡ StoreError.Memory) }
+        ensures refused { (t : Tables) → AreListed t self.now → NameHeldRuns t → AnswersOrMemory result }
     {
         let runs = numbers_of(alloc, &self.runs)?;
         if numbers_rise(&runs) && name_runs(self, &runs) {

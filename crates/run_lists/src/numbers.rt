@@ -1,8 +1,9 @@
 // The runs that are held, and the numbers of runs: of all, and of the members of a group.
-ghost use Rattle.std.specs.Prelude.{◌≡◌, ◌==◌, bytes_eq, string_bytes, map, filter, IfErr, IfOk};
+ghost use Rattle.std.specs.Prelude.{◌≡◌, ◌==◌, bytes_eq, string_bytes, map, filter, IfOk};
 ghost use Rattle.std.specs.List.{list_any};
 ghost use Rattle.std.specs.List.Sorted.{IsNonDecreasing};
 ghost use Rattle.plain_tables.specs.Tables.{Tables};
+ghost use Rattle.run_stores.specs.Calls.{AnswersOrMemory};
 ghost use Rattle.run_stores.specs.BookEntries.{held_run};
 ghost use Rattle.run_stores.specs.Entries.{entry_run};
 ghost use Rattle.run_stores.specs.Lookups.{members_in_tables, numbers_in_tables};
@@ -56,7 +57,7 @@ impl RunLists {
     /// The runs that are held, in the order of their numbers.
     pub fn runs(&self, alloc: Global) -> Result<Vec<RunEntry>, StoreError>
         ensures told { (t : Tables) → AreListed t self.now → IfOk result (λ entries. map entry_run entries.items ≡ map held_run t.runs) }
-        ensures refused { IfErr result (λ e. e ≡ StoreError.Memory) }
+        ensures refused { AnswersOrMemory result }
     {
         let mut entries = Vec::new(alloc);
         for line in &self.runs {
@@ -71,7 +72,7 @@ impl RunLists {
     /// The numbers of all runs, rising.
     pub fn run_numbers(&self, alloc: Global) -> Result<ListVec<u32>, StoreError>
         ensures told { (t : Tables) → AreListed t self.now → IfOk result (λ numbers. numbers ≡ numbers_in_tables t) }
-        ensures refused { IfErr result (λ e. e ≡ StoreError.Memory) }
+        ensures refused { AnswersOrMemory result }
     {
         let numbers = numbers_of(alloc, &self.runs)?;
         Ok(ListVec::from_vec(numbers))
@@ -80,7 +81,7 @@ impl RunLists {
     /// The numbers of the runs that are in a group, rising: none where there is no such group.
     pub fn members_of(&self, alloc: Global, name: &str) -> Result<ListVec<u32>, StoreError>
         ensures told { (t : Tables) → AreListed t self.now → IfOk result (λ numbers. numbers ≡ members_in_tables name.now t) }
-        ensures refused { IfErr result (λ e. e ≡ StoreError.Memory) }
+        ensures refused { AnswersOrMemory result }
     {
         let mut members = runs_of(alloc, &self.members, name)?;
         members.sort_unstable();

@@ -1,8 +1,11 @@
 // The sums of events: of those of a run, and over all runs.
-ghost use Rattle.std.specs.Prelude.{◌≡◌, ◌==◌, map, filter, length, sum_by, IfOk};
+ghost use Rattle.std.specs.Prelude.{◌≡◌, ◌≢◌, ◌<◌, ◌≤◌, ◌⊎◌, ◌==◌, map, filter, length, sum_by, IfErr, IfOk};
+ghost use Rattle.cost_rows.specs.KeySums.{sum_end};
 ghost use Rattle.plain_tables.specs.Tables.{Tables};
-ghost use Rattle.run_stores.specs.Totals.{IsHeldIn};
-ghost use Rattle.run_stores.specs.SelfSums.{AreSelfSums, events_of_run, sums_from};
+ghost use Rattle.plain_tables.specs.declared.errors.StoreError.TheVariants.{Memory};
+ghost use Rattle.run_stores.specs.Calls.{AnswersOrMemory};
+ghost use Rattle.run_stores.specs.Totals.{IsHeldIn, TotalsFit};
+ghost use Rattle.run_stores.specs.SelfSums.{AreSelfSums, HaveSelfSums, events_of_run, sums_from};
 ghost use Rattle.run_lists.specs.Listed.{AreListed};
 ghost use Rattle.run_lists.specs.Sums.{calls_sum, placed_sum, self_sum};
 
@@ -37,6 +40,7 @@ fn placed_sums(
 /// The sums at places that go up from 0 by one.
 fn sums_in_order(alloc: Global, placed: &[(u32, u64)]) -> Result<ListVec<u128>, StoreError>
     ensures read { IfOk result (λ sums. sums_from 0 sums ≡ map placed_sum placed.now) }
+    ensures refused { IfErr result (λ e. (e ≡ Memory) ⊎ ((sums : _) → sums_from 0 sums ≢ map placed_sum placed.now)) }
 {
     let mut sums = ListVec::new(alloc);
     for (place, sum) in placed {
@@ -54,6 +58,7 @@ fn sums_in_order(alloc: Global, placed: &[(u32, u64)]) -> Result<ListVec<u128>, 
 fn sums_named(events: &[ListedEvent], name: &[u8]) -> Result<EventSums, StoreError>
     ensures own { IfOk result (λ sums. sums.own ≡ self_sum events.now name.now) }
     ensures calls { IfOk result (λ sums. sums.calls ≡ calls_sum events.now name.now) }
+    ensures refused { IfErr result (λ _. self_sum events.now name.now < sum_end → sum_end ≤ calls_sum events.now name.now) }
 {
     let mut own: u128 = 0;
     let mut calls: u128 = 0;
@@ -74,6 +79,7 @@ fn sums_named(events: &[ListedEvent], name: &[u8]) -> Result<EventSums, StoreErr
 /// The calls of all runs.
 fn calls_of_all(runs: &[ListedRun]) -> Result<u128, StoreError>
     ensures read { IfOk result (λ count. count ≡ sum_by (λ r. r.call_count) runs.now) }
+    ensures refused { IfErr result (λ _. sum_end ≤ sum_by (λ r. r.call_count) runs.now) }
 {
     let mut count: u128 = 0;
     for run in runs {
@@ -90,6 +96,7 @@ impl RunLists {
     /// such run is held. `Store` where a place is left out or comes twice.
     pub fn sums_of(&self, alloc: Global, run: u32) -> Result<ListVec<u128>, StoreError>
         ensures told { (t : Tables) → AreListed t self.now → IfOk result (λ sums. AreSelfSums (events_of_run run t) sums) }
+        ensures serves { (t : Tables) → AreListed t self.now → HaveSelfSums (events_of_run run t) → AnswersOrMemory result }
     {
         let mut placed = placed_sums(alloc, self.events.of_run(run), run)?;
         placed.sort_unstable();
@@ -101,6 +108,7 @@ impl RunLists {
     /// 2^112 or more.
     pub fn totals_of(&self, alloc: Global, events: &[ListVec<u8>]) -> Result<FileTotals, StoreError>
         ensures told { (t : Tables) → AreListed t self.now → IfOk result (λ totals. IsHeldIn t events.now totals) }
+        ensures serves { (t : Tables) → AreListed t self.now → TotalsFit t events.now → AnswersOrMemory result }
         ensures columns { IfOk result (λ totals. (length totals.self_cost ≡ length events.now) × (length totals.call_cost ≡ length events.now)) }
     {
         let call_count = calls_of_all(&self.runs)?;

@@ -10,6 +10,10 @@ use Rattle.run_stores.specs.declared.states.StoreState.{Ghosts}
 abbrev pub MoreFaults : ℕ → ℕ → Type 0
 MoreFaults old new = min (old + 1) (2 ^ 64 - 1) ≤ new
 
+-- it is answered, or memory was refused
+abbrev pub AnswersOrMemory : {T : Type 0} → Result T StoreError → Type 0
+AnswersOrMemory result = IfErr result (λ e. e ≡ Memory)
+
 -- ---- the rows before a change and behind it
 
 abbrev pub Are : Tables → Tables → Type 0
@@ -144,4 +148,16 @@ module _ {S : Type 0} (g : Ghosts S) where
 
   -- one that can be used answers where memory lasts
   abbrev pub ServesOrMemory : {T : Type 0} → Result T StoreError → S → Type 0
-  ServesOrMemory result old = IsUsable old → IfErr result (λ e. e ≡ Memory)
+  ServesOrMemory result old = IsUsable old → AnswersOrMemory result
+
+  -- one that is read as such rows does
+  abbrev pub ServesIfOrMemory : {T : Type 0} → Result T StoreError → S → (Tables → Type 0) → Type 0
+  ServesIfOrMemory result old P = (t : Tables) → ReadsAs t old → P t → AnswersOrMemory result
+
+  -- why a call that reads what keeps the store may be refused: memory, or that failed in the call or has no room
+  abbrev pub FailsToAsk : S → S → StoreError → Type 0
+  FailsToAsk old new e = (e ≡ Memory) ⊎ (MoreFaults (g.faults old) (g.faults new) ⊎ g.is_full new)
+
+  -- one that represents such rows answers unless it fails so
+  abbrev pub ServesOrFails : {T : Type 0} → Result T StoreError → S → S → (Tables → Type 0) → Type 0
+  ServesOrFails result old new P = IsFaithful new → (t : Tables) → Represents t old → P t → IfErr result (FailsToAsk old new)

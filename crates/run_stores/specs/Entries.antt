@@ -1,6 +1,6 @@
 -- The entries of lists, beside the rows that they show.
-use Rattle.std.specs.Prelude.{◌≡◌, ℕ, List, bytes_eq, filter, map, flat_map, string_bytes, IsPermutation}
-use Rattle.std.specs.List.{AllByRecursion}
+use Rattle.std.specs.Prelude.{◌≡◌, ℕ, List, bytes_eq, filter, map, flat_map, length, string_bytes, IsPermutation}
+use Rattle.std.specs.List.{AllAdjacentBelow, AllByRecursion}
 use Rattle.std.specs.Ordering.{nat_cmp}
 use Rattle.std.specs.Cmp.Lexicographic.{slice_cmp}
 use Rattle.std.specs.declared.cmp.Ordering.TheVariants.{Less}
@@ -38,3 +38,9 @@ pub record AreGroups (t : Tables) (entries : List GroupEntry) : Type 0 where
 -- by the bytes of the names
 abbrev pub IsBefore : GroupEntry → GroupEntry → Type 0
 IsBefore a b = slice_cmp nat_cmp (string_bytes a.name) (string_bytes b.name) ≡ Less
+
+-- by rising names there are such entries
+pub record HasGroups (t : Tables) : Type 0 where
+  pub entries : List GroupEntry
+  pub are : AreGroups t entries
+  pub rising : AllAdjacentBelow IsBefore entries (length entries)

@@ -1,5 +1,5 @@
 -- The head of a run, as its rows say it.
-use Rattle.std.specs.Prelude.{◌≡◌, ℕ, suc, nat_lt, ◌==◌, if◌then◌else◌, IsTrue, List, [], ◌∷◌, ◌++◌, map, filter, length, Option, Some, None, unwrap_or, IfSome, IsPermutation, true}
+use Rattle.std.specs.Prelude.{◌≡◌, ◌<◌, ◌^◌, ℕ, suc, nat_lt, ◌==◌, if◌then◌else◌, IsTrue, List, [], ◌∷◌, ◌++◌, map, filter, length, Option, Some, None, unwrap_or, IfSome, All, IsPermutation, true}
 use Rattle.std.specs.Fmt.{decimal}
 use Rattle.cg_text.specs.Distinct.{are_distinct}
 use Rattle.cg_formulas.specs.declared.heads.FileHead.{FileHead}
@@ -85,6 +85,10 @@ pub record IsSound (head : FileHead) : Type 0 where
   pub stated_all : IfSome head.stated (λ sums. length sums ≡ length head.events)
   pub distinct : are_distinct (head.events ++ derived_names head) ≡ true
 
+-- the totals that it states are numbers of 128 bits
+abbrev pub StatesNumbers : FileHead → Type 0
+StatesNumbers head = IfSome head.stated (All (λ sum. sum < 2 ^ 128))
+
 -- the run is held, and its rows say the head, in whatever order
 pub record IsHeadIn (run : ℕ) (t : Tables) (head : FileHead) : Type 0 where
   pub is_held : IsTrue (has_run t run)
@@ -92,3 +96,9 @@ pub record IsHeadIn (run : ℕ) (t : Tables) (head : FileHead) : Type 0 where
   pub events_are : IsPermutation (map event_of_line (filter (λ (e : EventRow). e.run == run) t.events)) (event_entries head)
   pub derived_are : IsPermutation (map name_of_line (filter (λ (d : DerivedRow). d.run == run) t.derived)) (derived_entries head)
   pub coefs_are : IsPermutation (map coef_of_line (filter (λ (c : CoefRow). c.run == run) t.coefs)) (coef_entries head)
+
+-- the run has such a head
+pub record HasHead (run : ℕ) (t : Tables) : Type 0 where
+  pub head : FileHead
+  pub is : IsHeadIn run t head
+  pub numbers : StatesNumbers head

@@ -1,5 +1,5 @@
 -- Rows with the numbers of their names, and the same with names in place; names that are told apart, and some of them.
-use Rattle.std.specs.Prelude.{◌≡◌, ◌≢◌, ◌==◌, ℕ, Bool, false, List, Option, Some, None}
+use Rattle.std.specs.Prelude.{◌≡◌, ◌≢◌, ◌==◌, ◌<◌, ◌^◌, ℕ, Bool, false, List, Option, Some, None}
 use Rattle.std.specs.List.{AllByRecursion}
 use Rattle.cost_rows.specs.declared.rows.ArcRow.{ArcRow}
 use Rattle.cost_rows.specs.declared.rows.CellRow.{CellRow}
@@ -29,6 +29,10 @@ named_call names r = record {
   count = r.count;
   costs = r.costs;
 }
+
+-- each number has 32 bits, as those that the program gives
+abbrev pub AreNarrow : List NameRow → Type 0
+AreNarrow names = AllByRecursion (λ (n : NameRow). n.number < 2 ^ 32) names
 
 -- two numbers have two names
 abbrev pub AreApart : List NameRow → Type 0

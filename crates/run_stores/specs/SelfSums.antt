@@ -22,3 +22,7 @@ events_of_run run t = filter (λ (e : EventRow). e.run == run) t.events
 -- the sums are those of these rows, each at the place of its row
 abbrev pub AreSelfSums : List EventRow → List ℕ → Type 0
 AreSelfSums lines sums = IsPermutation (map self_of_line lines) (sums_from 0 sums)
+
+-- the places of these rows go up from 0 by one, so that they have sums
+abbrev pub HaveSelfSums : List EventRow → Type 0
+HaveSelfSums lines = (sums : List ℕ) × AreSelfSums lines sums

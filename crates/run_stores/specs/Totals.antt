@@ -1,5 +1,7 @@
 -- Sums over all runs that are held, in the tables.
-use Rattle.std.specs.Prelude.{◌≡◌, ℕ, List, map, filter, sum_by, bytes_eq}
+use Rattle.std.specs.Prelude.{◌≡◌, ◌<◌, ℕ, List, map, filter, sum_by, bytes_eq}
+use Rattle.std.specs.List.{AllByRecursion}
+use Rattle.cost_rows.specs.KeySums.{sum_end}
 use Rattle.cost_rows.specs.declared.rows.FileTotals.{FileTotals}
 use Rattle.plain_tables.specs.Tables.{Tables, EventRow, RunRow}
 
@@ -22,3 +24,9 @@ pub record IsHeldIn (t : Tables) (events : List (List ℕ)) (totals : FileTotals
   pub self_cost : totals.self_cost ≡ map (held_self t) events
   pub call_cost : totals.call_cost ≡ map (held_calls t) events
   pub call_count : totals.call_count ≡ held_count t
+
+-- each of these sums is below 2^112
+pub record TotalsFit (t : Tables) (events : List (List ℕ)) : Type 0 where
+  pub self_cost : AllByRecursion (λ name. held_self t name < sum_end) events
+  pub call_cost : AllByRecursion (λ name. held_calls t name < sum_end) events
+  pub call_count : held_count t < sum_end

@@ -40,6 +40,9 @@ pub trait StoreState {
     /// How often what keeps it has failed.
     ghost faults: { Self → ℕ };
 
+    /// It can grow no more: a read of what keeps it may name this as a cause too.
+    ghost is_full: { Self → Type 0 };
+
     /// What stands can be used.
     ghost usable: { (t : Tables) (store : Self) → represents t store → IsTrue (is_usable store) };
 

@@ -4,16 +4,16 @@ ghost use Rattle.std.specs.List.{AllAdjacentBelow, AllByRecursion};
 ghost use Rattle.std.specs.Result.{is_ok};
 ghost use Rattle.run_stores.specs.Book.{stacks_held, IsHeld};
 ghost use Rattle.run_stores.specs.BookEntries.{held_run};
-ghost use Rattle.run_stores.specs.HeldHeads.{IsHeadIn};
-ghost use Rattle.run_stores.specs.Totals.{IsHeldIn};
+ghost use Rattle.run_stores.specs.HeldHeads.{HasHead, IsHeadIn};
+ghost use Rattle.run_stores.specs.Totals.{IsHeldIn, TotalsFit};
 ghost use Rattle.plain_tables.specs.Changes.{has_group, has_run, joined, with_baseline, with_group, without_group, without_member, without_run};
 ghost use Rattle.plain_tables.specs.Labels.{IsGroupName};
 ghost use Rattle.plain_tables.specs.RunRows.{calls_in, cells_in};
-ghost use Rattle.run_stores.specs.Calls.{Asks, AsksIfOpen, Changes, ChangesIf, KeepsShut, Serves, ServesIf, ServesOrMemory, Told};
-ghost use Rattle.run_stores.specs.Entries.{AreGroups, IsBefore, entry_run};
+ghost use Rattle.run_stores.specs.Calls.{Asks, AsksIfOpen, Changes, ChangesIf, KeepsShut, Serves, ServesIf, ServesIfOrMemory, ServesOrFails, ServesOrMemory, Told};
+ghost use Rattle.run_stores.specs.Entries.{AreGroups, HasGroups, IsBefore, entry_run};
 ghost use Rattle.run_stores.specs.Lookups.{IsBaselineOf, IsKindOf, IsRunOf, members_in_tables, numbers_in_tables};
-ghost use Rattle.run_stores.specs.Names.{AreAmong, IsNumberOf};
-ghost use Rattle.run_stores.specs.SelfSums.{AreSelfSums, events_of_run};
+ghost use Rattle.run_stores.specs.Names.{AreAmong, AreNarrow, IsNumberOf};
+ghost use Rattle.run_stores.specs.SelfSums.{AreSelfSums, HaveSelfSums, events_of_run};
 ghost use Rattle.run_stores.specs.Runs.{with_summed};
 ghost use Rattle.run_stores.specs.Walks.{CallsFoldTo, CellsFoldTo};
 
@@ -85,7 +85,8 @@ pub trait RunStore: StoreState {
     fn groups(&mut self, alloc: Global) -> Result<Vec<GroupEntry>, StoreError>
         ensures told { Told Self.StoreState result self.old self.new (λ t entries. AreGroups t entries.items) }
         ensures rising { IfOk result (λ entries. AllAdjacentBelow IsBefore entries.items (length entries.items)) }
-        ensures asks { Asks Self.StoreState (is_ok result) self.old self.new };
+        ensures asks { Asks Self.StoreState (is_ok result) self.old self.new }
+        ensures serves { ServesIfOrMemory Self.StoreState result self.old HasGroups };
 
     /// The numbers of all runs, rising.
     fn run_numbers(&mut self, alloc: Global) -> Result<ListVec<u32>, StoreError>
@@ -119,13 +120,15 @@ pub trait RunStore: StoreState {
     fn totals_of(&mut self, alloc: Global, events: &[ListVec<u8>]) -> Result<FileTotals, StoreError>
         ensures told { Told Self.StoreState result self.old self.new (λ t. IsHeldIn t events.now) }
         ensures columns { IfOk result (λ totals. (length totals.self_cost ≡ length events.now) × (length totals.call_cost ≡ length events.now)) }
-        ensures asks { Asks Self.StoreState (is_ok result) self.old self.new };
+        ensures asks { Asks Self.StoreState (is_ok result) self.old self.new }
+        ensures serves { ServesIfOrMemory Self.StoreState result self.old (λ t. TotalsFit t events.now) };
 
     /// The sums of a run's self costs, one for each event, in the order of their places: none where no
     /// such run is held.
     fn sums_of(&mut self, alloc: Global, run: u32) -> Result<ListVec<u128>, StoreError>
         ensures told { Told Self.StoreState result self.old self.new (λ t. AreSelfSums (events_of_run run t)) }
-        ensures asks { Asks Self.StoreState (is_ok result) self.old self.new };
+        ensures asks { Asks Self.StoreState (is_ok result) self.old self.new }
+        ensures serves { ServesIfOrMemory Self.StoreState result self.old (λ t. HaveSelfSums (events_of_run run t)) };
 
     // ---- one run
 
@@ -134,27 +137,32 @@ pub trait RunStore: StoreState {
     /// rows are no head.
     fn head_of(&mut self, alloc: Global, run: u32) -> Result<FileHead, StoreError>
         ensures told { Told Self.StoreState result self.old self.new (λ t. IsHeadIn run t) }
-        ensures asks { Asks Self.StoreState (is_ok result) self.old self.new };
+        ensures asks { Asks Self.StoreState (is_ok result) self.old self.new }
+        ensures serves { ServesIfOrMemory Self.StoreState result self.old (HasHead run) };
 
     /// The names that are held, for any number of rows and sums.
     fn names_of(&mut self, alloc: Global) -> Result<Self::Names, StoreError>
         ensures told { Told Self.StoreState result self.old self.new (λ t names. Self.Names.name_rows names ≡ t.names) }
-        ensures asks { Asks Self.StoreState (is_ok result) self.old self.new };
+        ensures asks { Asks Self.StoreState (is_ok result) self.old self.new }
+        ensures serves { ServesOrFails Self.StoreState result self.old self.new (λ t. AreNarrow t.names) };
 
     /// The names of some numbers, where they are held: others may come with them.
     fn names_among(&mut self, alloc: Global, numbers: &[u32]) -> Result<Self::Names, StoreError>
         ensures told { Told Self.StoreState result self.old self.new (λ t names. AreAmong numbers.now t.names (Self.Names.name_rows names)) }
-        ensures asks { Asks Self.StoreState (is_ok result) self.old self.new };
+        ensures asks { Asks Self.StoreState (is_ok result) self.old self.new }
+        ensures serves { ServesOrFails Self.StoreState result self.old self.new (λ t. AreNarrow t.names) };
 
     /// The number of a name, if it is held.
     fn number_of(&mut self, alloc: Global, name: &[u8]) -> Result<Option<u32>, StoreError>
         ensures told { Told Self.StoreState result self.old self.new (λ t number. IsNumberOf t.names name.now number) }
-        ensures asks { Asks Self.StoreState (is_ok result) self.old self.new };
+        ensures asks { Asks Self.StoreState (is_ok result) self.old self.new }
+        ensures serves { ServesOrFails Self.StoreState result self.old self.new (λ t. AreNarrow t.names) };
 
     /// Whether all of some numbers have a name that is held.
     fn holds_names(&mut self, alloc: Global, numbers: &[u32]) -> Result<bool, StoreError>
         ensures told { Told Self.StoreState result self.old self.new (λ t are. (are ≡ true) ↔ AllByRecursion (IsHeld t.names) numbers.now) }
-        ensures asks { Asks Self.StoreState (is_ok result) self.old self.new };
+        ensures asks { Asks Self.StoreState (is_ok result) self.old self.new }
+        ensures serves { ServesOrFails Self.StoreState result self.old self.new (λ t. AreNarrow t.names) };
 
     /// Hands on the cells of a run, with so many events and the numbers of names. What took them all is
     /// handed back. `Store` also for a cell of none of the events; and the errors of the taker.

@@ -6,6 +6,7 @@ use Rattle.run_stores.specs.Book.{IsHeld}
 use Rattle.page_lists.specs.Among.{is_among}
 use Rattle.page_lists.proofs.Among.{shown_rise}
 use Rattle.page_lists.proofs.SomeNames.{all_held, found_rise, names_of, names_picked, numbers_are}
+use Rattle.page_lists.proofs.Refusing.{handed_on}
 use Rattle.page_lists.proofs.names.holds_names.Goals as goal
 
 pub returns-clause-read : goal.returns-clause-read
@@ -26,3 +27,6 @@ returns-in_err-found-clause-reads g c = c.rows_among.ensures.reads
 
 pub returns-clause-reads : goal.returns-clause-reads
 returns-clause-reads g c = c.rows_among.ensures.reads
+
+pub returns-in_err-found-clause-serves : goal.returns-in_err-found-clause-serves
+returns-in_err-found-clause-serves g c = λ faithful rows is all. handed_on c.from_residual.result _ _ c.from_residual.ensures.1 (c.in_err-found.ensures.serves faithful rows is all)

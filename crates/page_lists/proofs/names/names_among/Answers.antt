@@ -3,7 +3,9 @@ use Rattle.std.proofs.lemmas.Result.{IfOk-from_err}
 use Rattle.run_stores.specs.Names.{AreAmong}
 use Rattle.page_lists.specs.Among.{is_among}
 use Rattle.page_lists.proofs.NameColumns.{names_read}
-use Rattle.page_lists.proofs.SomeNames.{are_among, names_of, names_picked}
+use Rattle.page_lists.proofs.SomeNames.{are_among, kept_rise, names_of, names_picked}
+use Rattle.page_lists.proofs.Among.{shown_rise}
+use Rattle.page_lists.proofs.Refusing.{handed_on, names_rise}
 use Rattle.page_lists.proofs.names.names_among.Goals as goal
 
 pub returns-clause-read : goal.returns-clause-read
@@ -27,3 +29,11 @@ returns-in_err-of-clause-reads g c = c.rows_among.ensures.reads
 
 pub returns-clause-reads : goal.returns-clause-reads
 returns-clause-reads g c = c.rows_among.ensures.reads
+
+pub returns-in_err-names-clause-serves : goal.returns-in_err-names-clause-serves
+returns-in_err-names-clause-serves g c = λ faithful rows is all. handed_on c.from_residual.result _ _ c.from_residual.ensures.1 (c.in_err-names.ensures.serves faithful rows is all)
+
+pub returns-in_err-of-clause-serves : goal.returns-in_err-of-clause-serves
+returns-in_err-of-clause-serves g c = λ faithful rows is all.
+    let picked = is_among c.args.numbers.now in
+    absurd (c.in_err-of.ensures.refused (names_rise (filter picked rows) c.in_ok-names.names.items (c.in_ok-names.ensures.read faithful rows is) (kept_rise picked rows (shown_rise _ _ rows is))))

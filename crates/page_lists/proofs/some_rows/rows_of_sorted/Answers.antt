@@ -8,6 +8,8 @@ use Rattle.page_lists.specs.Among.{is_among}
 use Rattle.page_lists.proofs.Among.{among_group, among_none, shown_rise}
 use Rattle.page_files.proofs.Reading.{OnlyReads-refl}
 use Rattle.page_lists.proofs.Shows.{shows_after}
+use Rattle.page_places.proofs.Failing.{reads_later}
+use Rattle.page_lists.proofs.Refusing.{handed_on}
 use Rattle.page_lists.proofs.some_rows.rows_of_sorted.Goals as goal
 
 pub groups-init : goal.groups-init
@@ -54,3 +56,8 @@ returns-in_err-lines-clause-read g c = λ up faithful rows is. IfOk-from_err c.f
 
 pub returns-clause-reads : goal.returns-clause-reads
 returns-clause-reads g c = c.groups.invariant.reads
+
+pub returns-in_err-lines-clause-serves : goal.returns-in_err-lines-clause-serves
+returns-in_err-lines-clause-serves g c = λ faithful rows is all.
+    handed_on c.from_residual.result _ _ c.from_residual.ensures.1
+    (reads_later c.args.file.now c.groups.file c.with_group.new.file _ c.groups.invariant.reads (c.in_err-lines.ensures.serves faithful rows (shows_after _ _ _ rows c.groups.invariant.reads is) all))

@@ -1,8 +1,10 @@
 use Rattle.std.proofs.Common.{◌≡◌, ◌≤◌, ◌<◌, ◌++◌, ℕ, pos, w64, of_z, to_z, map, filter, length, get_or, ap, ap₂, subst, sym, refl, inl, inr, ◌∙◌, to_z-of_z, arith, append-nil, rules, SFits}
+use Rattle.std.specs.List.{AllByRecursion}
 use Rattle.page_rows.specs.Rows.{from_rowid}
 use Rattle.page_files.proofs.Reading.{OnlyReads-refl}
 use Rattle.page_lists.specs.Among.{Rise, is_among}
 use Rattle.page_lists.proofs.Among.{among_from, among_none, nothing_taken, rise_from, rise_front, shown_numbered, shown_rise, taken_all}
+use Rattle.page_lists.proofs.Refusing.{all_from, walk_fails}
 use Rattle.page_lists.proofs.some_rows.with_group.Goals as goal
 
 pub returns-in_default-clause-read : goal.returns-in_default-clause-read
@@ -42,3 +44,12 @@ returns-in-Err-clause-read g c up faithful rows is = tt
 
 pub returns-in-Err-clause-reads : goal.returns-in-Err-clause-reads
 returns-in-Err-clause-reads g c = c.walk.ensures.reads
+
+pub returns-in-Err-clause-serves : goal.returns-in-Err-clause-serves
+returns-in-Err-clause-serves g c faithful = λ rows is all.
+    let l = g.L.FromRecord in
+    let group = c.args.group.now in
+    let before = map l.columns c.args.lines.items in
+    let whole = all_from l.IsRead _ _ (subst (AllByRecursion l.IsRead) (sym is.rows_are) all) in
+    walk_fails c.args.file.now c.walk.new.self l.IsRead _ c.in-Err.error _ c.error_of_walk.ensures whole
+    (c.in-Err.ensures.done faithful is.wanted is.t is.shows (group, before) (refl, λ rises none. nothing_taken l.columns l.seen group c.args.lines.items))

@@ -47,7 +47,7 @@ returns-else-is_err g c =
     let now = place_in numbers start.0 from to c.args.rowid c.ranges.rowid same c.passed_to-at.ensures in
     let number : c.in-Some.number.now ≡ get_or start.0 to 0 = found.1 0 ∙ ap (λ ns. get_or ns to 0) same in
     let id : c.args.rowid ≡ pos (get_or start.0 to 0) = same_bits c.from.result c.args.rowid (search rules) c.ranges.rowid c.if-from-rowid.true ∙ c.from.ensures ∙ ap pos number in
-    let shown : l.columns c.in_ok-line-in-Some.line ≡ l.seen row = c.in_ok-line-in-Some.ensures ∙ ap (λ z. l.seen (table_row (z, c.args.payload.now))) (to_z-of_z c.ranges.rowid) in
+    let shown : l.columns c.in_ok-line-in-Some.line ≡ l.seen row = c.in_ok-line-in-Some.ensures.read ∙ ap (λ z. l.seen (table_row (z, c.args.payload.now))) (to_z-of_z c.ranges.rowid) in
     let pushed : c.push.new.self.items ≡ c.args.self.now.lines.items ++ c.in_ok-line-in-Some.line ∷ [] = rw c.if-is_err.ensures.negation at c.push.ensures.items in
     met l.columns l.seen start.0 start.1 up rows row from to c.args.self.now.lines.items rise (has up (rise_front rows (row ∷ []) rise)) now c.in_ok-line-in-Some.line c.push.new.self.items
     (subst (λ ns. to < length ns) same found.0) id shown pushed in

@@ -19,3 +19,9 @@ returns-clause-rising g c = c.groups.ensures.rising
 
 pub returns-clause-asks : goal.returns-clause-asks
 returns-clause-asks g c = asked_usable c.args.self.now c.in_ok-if_usable.ensures.usable _
+
+pub returns-in_err-if_usable-clause-serves : goal.returns-in_err-if_usable-clause-serves
+returns-in_err-if_usable-clause-serves g c = λ t is has. absurd (c.in_err-if_usable.ensures.shut is.usable)
+
+pub returns-clause-serves : goal.returns-clause-serves
+returns-clause-serves g c = λ t is has. c.groups.ensures.serves t is.shows.listed has.entries has.are has.rising

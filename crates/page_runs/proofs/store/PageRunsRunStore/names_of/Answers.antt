@@ -1,5 +1,7 @@
 use Rattle.std.proofs.Common.{refl}
 use Rattle.std.proofs.lemmas.Result.{IfOk-from_err}
+use Rattle.page_lists.proofs.Refusing.{handed_on}
+use Rattle.page_runs.proofs.Serving.{names_failed, shut_failed}
 use Rattle.page_runs.proofs.Taken.{large_shown}
 use Rattle.page_runs.proofs.States.{asked, none_answered}
 use Rattle.page_runs.proofs.store.PageRunsRunStore.names_of.Goals as goal
@@ -23,3 +25,11 @@ returns-in_err-answer-clause-told g c = λ faithful t is. IfOk-from_err c.from_r
 
 pub returns-in_err-if_usable-clause-told : goal.returns-in_err-if_usable-clause-told
 returns-in_err-if_usable-clause-told g c = λ faithful t is. IfOk-from_err c.from_residual-in_err-if_usable.result _ c.from_residual-in_err-if_usable.ensures.0
+
+pub returns-in_err-answer-clause-serves : goal.returns-in_err-answer-clause-serves
+returns-in_err-answer-clause-serves g c = λ faithful t was narrow.
+    handed_on c.from_residual.result _ _ c.from_residual.ensures.1 (names_failed c.args.self.now (record c.args.self.now { file = c.names_under.new.file }) c.names_under.ensures.reads _ faithful t was narrow (c.in_err-answer.ensures.serves faithful))
+
+pub returns-in_err-if_usable-clause-serves : goal.returns-in_err-if_usable-clause-serves
+returns-in_err-if_usable-clause-serves g c = λ faithful t was narrow.
+    handed_on c.from_residual-in_err-if_usable.result _ _ c.from_residual-in_err-if_usable.ensures.1 (shut_failed c.args.self.now (record c.args.self.now { file = c.names_under.new.file }) c.names_under.ensures.reads _ t was c.in_err-if_usable.ensures.shut)

@@ -4,6 +4,7 @@ use Rattle.page_lists.proofs.NamesTold.{names_told}
 use Rattle.page_places.specs.Stores.{ShowsNames}
 use Rattle.page_runs.proofs.Changes.{is_done}
 use Rattle.page_runs.proofs.NumberOfName.{is_number}
+use Rattle.page_runs.proofs.Serving.{number_failed}
 use Rattle.page_runs.proofs.States.{asked}
 use Rattle.page_runs.proofs.Taken.{large_shown}
 use Rattle.page_runs.proofs.store.PageRunsRunStore.number_of.Goals as goal
@@ -28,3 +29,10 @@ returns-clause-told g c faithful t is =
 
 pub returns-clause-asks : goal.returns-clause-asks
 returns-clause-asks g c = asked _ _ c.find_name.ensures.reads refl refl refl _ (λ done. is_done c.find_name.result done c.find_name.ensures.usable)
+
+pub returns-clause-serves : goal.returns-clause-serves
+returns-clause-serves g c = λ faithful t was narrow.
+    let store = c.args.self.now in
+    let is = was.reads in
+    let names : ShowsNames t is.shows.known store.file = record { wanted = is.shows.wanted; db = is.shows.db; stands = is.shows.stands; holds = names_told t is.shows.db is.shows.says.says } in
+    number_failed store (record store { file = c.find_name.new.file }) c.find_name.ensures.reads c.find_name.result _ faithful t was narrow (c.find_name.ensures.told faithful t is.shows.known names is.shows.roots.name_bytes)

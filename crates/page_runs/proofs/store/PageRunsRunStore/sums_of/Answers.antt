@@ -13,3 +13,9 @@ returns-clause-told g c = λ faithful t is. c.sums_of.ensures.told t is.shows.li
 
 pub returns-clause-asks : goal.returns-clause-asks
 returns-clause-asks g c = asked_usable c.args.self.now c.in_ok-if_usable.ensures.usable _
+
+pub returns-in_err-if_usable-clause-serves : goal.returns-in_err-if_usable-clause-serves
+returns-in_err-if_usable-clause-serves g c = λ t is has. absurd (c.in_err-if_usable.ensures.shut is.usable)
+
+pub returns-clause-serves : goal.returns-clause-serves
+returns-clause-serves g c = λ t is has. c.sums_of.ensures.serves t is.shows.listed has

@@ -1,4 +1,6 @@
-use Rattle.std.proofs.Common.{◌∙◌, ℕ, List, map, sum_by, ap}
+use Rattle.std.proofs.Common.{◌≤◌, ◌<◌, ◌∙◌, ℕ, List, get_or, map, sum_by, ap, subst₂, arith}
+use Rattle.std.proofs.lemmas.List.Elements.{All-from_recursion}
+use Rattle.cost_rows.specs.KeySums.{sum_end}
 use Rattle.std.proofs.lemmas.List.{take_all}
 use Rattle.run_stores.specs.Totals.{held_self, held_calls}
 use Rattle.plain_tables.specs.Tables.{RunRow}
@@ -20,3 +22,24 @@ returns-clause-told c t was =
       call_cost = c.loop-event.invariant.1 ∙ ap (map calls) all ∙ map_same calls (held_calls t) names (calls_told t lists was);
       call_count = c.in_ok-call_count.ensures.read ∙ ap (sum_by (λ (r : ListedRun). r.call_count)) c.deref.ensures.value ∙ sum_row run_row (λ (r : RunRow). r.call_count) lists.runs.items t.runs was.runs;
     }
+
+pub returns-in_err-call_count-clause-serves : goal.returns-in_err-call_count-clause-serves
+returns-in_err-call_count-clause-serves c = λ t was fit.
+    let told = ap (sum_by (λ (r : ListedRun). r.call_count)) c.deref.ensures.value ∙ sum_row run_row (λ (r : RunRow). r.call_count) c.args.self.now.runs.items t.runs was.runs in
+    let over = c.in_err-call_count.ensures.refused in
+    absurd (omega (arith, fit.call_count, told, over))
+
+pub returns-in_err-sums-clause-serves : goal.returns-in_err-sums-clause-serves
+returns-in_err-sums-clause-serves c = λ t was fit.
+    let lists = c.args.self.now in
+    let names = c.args.events.now in
+    let at = c.loop-event.event-index in
+    let name = get_or names at c.event-item.result in
+    let own = All-from_recursion (λ n. held_self t n < sum_end) names fit.self_cost at c.event-item.result c.loop-event-test.true in
+    let calls = All-from_recursion (λ n. held_calls t n < sum_end) names fit.call_cost at c.event-item.result c.loop-event-test.true in
+    let refused : self_sum lists.events name < sum_end → sum_end ≤ calls_sum lists.events name =
+    subst₂ (λ events n. self_sum events n < sum_end → sum_end ≤ calls_sum events n) c.all.ensures (c.as_slice.ensures ∙ c.event-item.is) c.in_err-sums.ensures.refused in
+    let here = self_told t lists was name in
+    let there = calls_told t lists was name in
+    let over = refused (omega (arith, own, here)) in
+    absurd (omega (arith, over, calls, there))
